@@ -30,12 +30,9 @@ one-cut text (x ∷ xs) (y ∷ ys) from c d =
     let rest : ys ≡ xs = one-rest text x xs ys (λ next e f. one-cut text xs ys next e f) (c .1) (subst (λ z. Behind (λ next. Cut text next ys) (ys ≡ []) z) same (d .1)) in
     ap (λ z. z ∷ ys) same ∙ ap (λ zs. x ∷ zs) rest
 
--- the tokens up to a position, and how a cut from there completes them
-abbrev pub Grown : List ℕ → ℕ → ℕ → Type 0
-Grown text from n = (tokens : List Found) × (length tokens ≡ n) × ((rest : List Found) → Cut text from rest → Cut text 0 (tokens ++ rest))
-
-pub grown-none : (text : List ℕ) → Grown text 0 0
-grown-none text = ([], refl, λ rest c. c)
+-- these are the tokens up to a position: a cut from there completes them to one of the whole text
+abbrev pub Grown : List ℕ → ℕ → List Found → Type 0
+Grown text from tokens = (rest : List Found) → Cut text from rest → Cut text 0 (tokens ++ rest)
 
 -- a token that is not the end is one more, and the text goes on behind it
 on : (t : Token) (place next : ℕ) (more : ℕ → Type 0) (none : Type 0) → (t ≡ case.End → ⊥) → more next → Behind more none (token (lexeme t) place next)
@@ -52,22 +49,29 @@ ahead-of (case.Name w) text from place next go h = h
 ahead-of (case.Mark m) text from place next go h = h
 ahead-of case.End text from place next go h = absurd (go refl)
 
-pub grown-more : (t : Token) (text : List ℕ) (from n place next : ℕ) → Grown text from n → (t ≡ case.End → ⊥) → Scanned text from (token (lexeme t) place next) → Grown text next (n + 1)
-grown-more t text from n place next g go s =
+pub grown-more : (t : Token) (text : List ℕ) (from place next : ℕ) (tokens : List Found) → Grown text from tokens → (t ≡ case.End → ⊥) → Scanned text from (token (lexeme t) place next) → Grown text next (tokens ++ token (lexeme t) place next ∷ [])
+grown-more t text from place next tokens g go s rest c =
     let x : Found = token (lexeme t) place next in
-    (g .0 ++ x ∷ [], (simp (length-append, g .1)), λ rest c. subst (Cut text 0) (sym (append-assoc (g .0) (x ∷ []) rest)) (g .2 (x ∷ rest) (s, on t place next (λ i. Cut text i rest) (rest ≡ []) go c)))
+    subst (Cut text 0) (sym (append-assoc tokens (x ∷ []) rest)) (g (x ∷ rest) (s, on t place next (λ i. Cut text i rest) (rest ≡ []) go c))
 
-counted : (text : List ℕ) (from n : ℕ) (x : Found) (r : Result ℕ Fault) (g : Grown text from n) → Cut text from (x ∷ []) → Ends text (g .0 ++ x ∷ []) r → Counted text r
-counted text from n x r g c e =
-    record { finds = g .0 ++ x ∷ []; cut = g .2 (x ∷ []) c; one = λ others d. one-cut text (g .0 ++ x ∷ []) others 0 (g .2 (x ∷ []) c) d; ends = e }
+-- the end, or a fault, ends the cut
+pub grown-end : (t : Token) (text : List ℕ) (from place next : ℕ) (tokens : List Found) → Grown text from tokens → t ≡ case.End → Scanned text from (token (lexeme t) place next) → Cut text 0 (tokens ++ token (lexeme t) place next ∷ [])
+grown-end t text from place next tokens g is s =
+    g (token (lexeme t) place next ∷ []) (s, subst (λ k. Behind (λ i. Cut text i []) (_≡_ {A = List Found} [] []) (token (lexeme k) place next)) (sym is) refl)
 
-pub counted-end : (text : List ℕ) (from n place next : ℕ) → Grown text from n → Ahead text from (token end place next) → Scanned text from (token end place next) → Counted text (Ok n)
-counted-end text from n place next g a s =
+pub grown-fault : (text : List ℕ) (from : ℕ) (f : Fault) (tokens : List Found) → Grown text from tokens → Scanned text from (fault f) → Cut text 0 (tokens ++ fault f ∷ [])
+grown-fault text from f tokens g s = g (fault f ∷ []) (s, refl)
+
+counted : (text : List ℕ) (finds : List Found) (r : Result ℕ Fault) → Cut text 0 finds → Ends text finds r → Counted text r
+counted text finds r c e = record { finds = finds; cut = c; one = λ others d. one-cut text finds others 0 c d; ends = e }
+
+pub counted-end : (text : List ℕ) (from place next : ℕ) (tokens : List Found) (n : ℕ) → Grown text from tokens → length tokens ≡ n → Ahead text from (token end place next) → Scanned text from (token end place next) → Counted text (Ok n)
+counted-end text from place next tokens n g long a s =
     let is : token end place next ≡ token end (length text) (length text) = ap (λ i. token end i next) (a .0) ∙ ap (token end (length text)) (a .1) in
-    counted text from n (token end place next) (Ok n) g (s, refl) (g .0, ap (λ x. g .0 ++ x ∷ []) is, g .1)
+    counted text (tokens ++ token end place next ∷ []) (Ok n) (g (token end place next ∷ []) (s, refl)) (tokens, ap (λ x. tokens ++ x ∷ []) is, long)
 
-pub counted-fault : (text : List ℕ) (from n : ℕ) (f : Fault) → Grown text from n → Scanned text from (fault f) → Counted text (Err f)
-counted-fault text from n f g s = counted text from n (fault f) (Err f) g (s, refl) (g .0, refl)
+pub counted-fault : (text : List ℕ) (from : ℕ) (f : Fault) (tokens : List Found) → Grown text from tokens → Scanned text from (fault f) → Counted text (Err f)
+counted-fault text from f tokens g s = counted text (tokens ++ fault f ∷ []) (Err f) (grown-fault text from f tokens g s) (tokens, refl)
 
 -- a position within the text is not clipped
 pub unclipped : (P : ℕ → Type 0) (text : List ℕ) (from : ℕ) → from ≤ length text → P (clipped text from) → P from

@@ -30,6 +30,25 @@ pub fn is_digit(b: u8) -> bool
     matches!(b, b'0'..=b'9')
 }
 
+impl Mark {
+    /// The byte of the mark.
+    pub fn sign(self) -> u8
+        ensures { λ r. ⌜ r ≡ sign self ⌝ }
+    {
+        match self {
+            Mark::OpenBracket => b'[',
+            Mark::CloseBracket => b']',
+            Mark::OpenBrace => b'{',
+            Mark::CloseBrace => b'}',
+            Mark::OpenParen => b'(',
+            Mark::CloseParen => b')',
+            Mark::Not => b'!',
+            Mark::And => b'&',
+            Mark::Or => b'|',
+        }
+    }
+}
+
 /// The mark that a byte is, if it is one.
 pub fn mark_of(b: u8) -> Option<Mark>
     ensures { λ r. ⌜ Cases r (NoMark b) (λ m. b ≡ sign m) ⌝ }

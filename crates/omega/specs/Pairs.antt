@@ -26,11 +26,12 @@ turned true uGood vGood = not vGood
 -- the pair with n states, of which a second part has w
 abbrev pub numbered : ℕ → ℕ → Meaning → Meaning → Meaning
 numbered n w A B = record {
-    states = n;
-    signals = A .signals;
-    start = λ x. ltb x n && (not (turn x) && (A .start (left w x) && B .start (right w x)));
-    good = λ x. ltb x n && (turn x && B .good (right w x));
-    step = λ x a y. (ltb x n && ltb y n) && (Bool·beq (turn y) (turned (turn x) (A .good (left w x)) (B .good (right w x))) && (A .step (left w x) a (left w y) && B .step (right w x) a (right w y))) }
+  states = n;
+  signals = A .signals;
+  start = λ x. ltb x n && (not (turn x) && (A .start (left w x) && B .start (right w x)));
+  good = λ x. ltb x n && (turn x && B .good (right w x));
+  step = λ x a y. (ltb x n && ltb y n) && (Bool·beq (turn y) (turned (turn x) (A .good (left w x)) (B .good (right w x))) && (A .step (left w x) a (left w y) && B .step (right w x) a (right w y)));
+}
 
 -- the pair of two automata
 abbrev pub pair : Meaning → Meaning → Meaning

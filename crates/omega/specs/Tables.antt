@@ -10,8 +10,9 @@ use Rattle.omega.specs.Signals.{bit}
 -- bit s of `starts` and of `goods` says whether s is a start and whether it is good
 abbrev pub table : ℕ → ℕ → ℕ → ℕ → List ℕ → Meaning
 table n p starts goods cells = record {
-    states = n;
-    signals = p;
-    start = λ s. bit s starts;
-    good = λ s. bit s goods;
-    step = λ s a t. (ltb s n && ltb t n) && bit a (getD cells (s * n + t) 0) }
+  states = n;
+  signals = p;
+  start = λ s. bit s starts;
+  good = λ s. bit s goods;
+  step = λ s a t. (ltb s n && ltb t n) && bit a (getD cells (s * n + t) 0);
+}

@@ -1,0 +1,17 @@
+pub mod Finite
+pub mod Updates
+pub mod Pigeonhole
+pub mod Paths
+pub mod Climbs
+pub mod Refuting
+pub mod Looping
+pub mod Rising
+pub mod Ranks
+pub mod Tests
+pub mod Turns
+pub mod Pairing
+pub mod Soundness
+pub mod Watching
+pub mod Lowest
+pub mod Places
+pub mod Targets

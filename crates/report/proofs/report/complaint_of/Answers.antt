@@ -1,0 +1,15 @@
+use mathlib.Core.Path.{sym, ap}
+use Rattle.report.specs.Lines.{complaint}
+use Rattle.report.proofs.report.complaint_of.Needs as need
+
+pub returns-in-BadByte : need.returns-in-BadByte
+returns-in-BadByte c = sym (ap complaint (c .in-BadByte .is))
+
+pub returns-in-BadNumber : need.returns-in-BadNumber
+returns-in-BadNumber c = sym (ap complaint (c .in-BadNumber .is))
+
+pub returns-in-TooLong : need.returns-in-TooLong
+returns-in-TooLong c = sym (ap complaint (c .in-TooLong .is))
+
+pub returns-in-Unreadable : need.returns-in-Unreadable
+returns-in-Unreadable c = sym (ap complaint (c .in-Unreadable .is))
