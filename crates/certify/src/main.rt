@@ -22,10 +22,8 @@ fn read(rt: &LibcRuntime, path: &str) -> Option<Vec<u8>> {
 
 /// Prints what is found in a file, and answers whether to go on.
 fn print(rt: &LibcRuntime, source: Source, path: &str) -> io::Result<bool> {
-    let report = match read(rt, path) {
-        Some(bytes) => report_file(rt.alloc(), source, Some(bytes.as_slice()))?,
-        None => report_file(rt.alloc(), source, None)?,
-    };
+    let file = read(rt, path);
+    let report = report_file(rt.alloc(), source, &file)?;
     rt.stdout().write_all(report.lines.as_slice())?;
     Ok(report.sound)
 }
