@@ -15,3 +15,4 @@ pub mod Watching
 pub mod Lowest
 pub mod Places
 pub mod Targets
+pub mod Caching

@@ -11,15 +11,8 @@ use Rattle.std.proofs.shelf.Bits.{le-div, div-add-mod', mod-below}
 use Rattle.std.proofs.shelf.Tests.{cases-lt}
 use Rattle.std.specs.declared.option.Option.the-variants.{Some, None}
 use Rattle.omega.specs.Automata.{Lowest}
+use Rattle.omega.specs.Cached.{place, NoneInRow}
 use Rattle.omega.proofs.Tests.{both-pass, parts-pass}
-
--- the place k, of row k / w and column k % w, passes if its row passes P and its column Q
-abbrev pub place : (ℕ → Bool) → (ℕ → Bool) → ℕ → ℕ → Bool
-place P Q w k = P (k / w) && Q (k % w)
-
--- no place from g on passes that stands in the row of g
-pub record NoneInRow (P Q : ℕ → Bool) (w g : ℕ) : Type 0 where
-  pub none : (k : ℕ) → g % w ≤ k → k < w → T (P (g / w)) → T (Q k) → ⊥
 
 -- the four ways to find that: the row does not pass, or no column passes from that of g on
 module _ (P Q : ℕ → Bool) (w g : ℕ) where

@@ -1,4 +1,4 @@
--- What `next` of a pair answers, for each way in which the lowest rows and columns come out that the two parts tell.
+-- What `next` of a pair answers, from the lowest place that passes.
 use mathlib.Core.Path.{_≡_, sym, ap, _∙_}
 use mathlib.Core.Bool.{Bool, _&&_, Bool·beq}
 use Prim.Native.Nat.{ℕ, _+_, _*_, _/_, _%_, _<_, _≤_}
@@ -7,10 +7,11 @@ use lib.Dec.{T, eqb, ltb, lt→ltb, ltb→lt, eqb→eq, eqb-refl}
 use Rattle.std.proofs.shelf.Ways.{tells}
 use Rattle.std.specs.declared.option.Option.the-variants.{Some, None}
 use Rattle.omega.specs.Automata.{Meaning, Lowest}
-use Rattle.omega.specs.Pairs.{code, left, right, turn, turned, numbered}
+use Rattle.omega.specs.Pairs.{left, right, turn, turned, numbered}
 use Rattle.omega.proofs.Tests.{both-pass, parts-pass, agree-equal, equal-agree}
 use Rattle.omega.proofs.Lowest.{lowest-same, bounded-found, bounded-past, bounded-none}
-use Rattle.omega.proofs.Places.{place, NoneInRow, at-turn, turn-found, turn-none, place-in-row, place-in-later-row, no-later-row, no-column, no-column-inside}
+use Rattle.omega.specs.Cached.{place}
+use Rattle.omega.proofs.Places.{at-turn, turn-found, turn-none}
 
 -- the targets of state x that are not below f: their turn is c, and their places are not below g
 pub record Targets (n w : ℕ) (A B : Meaning) (x f c g : ℕ) : Type 0 where
@@ -63,32 +64,6 @@ module _ (n w : ℕ) (A B : Meaning) (x a f c g : ℕ) (targets : Targets n w A 
   target-none none =
       lowest-same goal (numbered n w A B .step x a) goal-steps step-goal f None
       (bounded-none _ n f (turn-none (place first second w) c f g (targets .digit) (targets .reaches) (targets .lowest) none))
-
-  -- the outcomes of the search
-  pub next-in-row : (p q : ℕ) → Lowest first (g / w) (Some p) → p ≡ g / w → Lowest second (g % w) (Some q) → q < w → code w (g / w) q c < n →
-      Lowest (numbered n w A B .step x a) f (Some (code w (g / w) q c))
-  next-in-row p q row here column inside = target-found _ (place-in-row first second w (targets .wide) g p q row here column inside)
-
-  pub past-in-row : (p q : ℕ) → Lowest first (g / w) (Some p) → p ≡ g / w → Lowest second (g % w) (Some q) → q < w → n ≤ code w (g / w) q c →
-      Lowest (numbered n w A B .step x a) f None
-  past-in-row p q row here column inside = target-past _ (place-in-row first second w (targets .wide) g p q row here column inside)
-
-  pub next-in-later-row : (p q : ℕ) → NoneInRow first second w g → Lowest first (g / w + 1) (Some p) → Lowest second 0 (Some q) → q < w → code w p q c < n →
-      Lowest (numbered n w A B .step x a) f (Some (code w p q c))
-  next-in-later-row p q none row column inside = target-found _ (place-in-later-row first second w (targets .wide) g p q none row column inside)
-
-  pub past-in-later-row : (p q : ℕ) → NoneInRow first second w g → Lowest first (g / w + 1) (Some p) → Lowest second 0 (Some q) → q < w → n ≤ code w p q c →
-      Lowest (numbered n w A B .step x a) f None
-  past-in-later-row p q none row column inside = target-past _ (place-in-later-row first second w (targets .wide) g p q none row column inside)
-
-  pub none-in-later-row : NoneInRow first second w g → Lowest first (g / w + 1) None → Lowest (numbered n w A B .step x a) f None
-  none-in-later-row none missing = target-none (no-later-row first second w (targets .wide) g none missing)
-
-  pub none-in-columns : Lowest second 0 None → Lowest (numbered n w A B .step x a) f None
-  none-in-columns missing = target-none (no-column first second w (targets .wide) g missing)
-
-  pub none-in-columns-inside : (q : ℕ) → Lowest second 0 (Some q) → w ≤ q → Lowest (numbered n w A B .step x a) f None
-  none-in-columns-inside q column past = target-none (no-column-inside first second w (targets .wide) g q column past)
 
 -- a number that is no state has no targets
 pub none-from-outside : (n w : ℕ) (A B : Meaning) (x a f : ℕ) → n ≤ x → Lowest (numbered n w A B .step x a) f None

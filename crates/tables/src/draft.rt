@@ -1,0 +1,77 @@
+//! A table in memory of its own, to which starts, good states and steps are added.
+ghost use Prim.Native.Nat.{ℕ, _*_, _^_, _<_, _≤_};
+ghost use mathlib.Core.Path.{_≡_};
+ghost use lib.ListN.{length, getD, replicate};
+ghost use Rattle.std.specs.Options.{Cases};
+ghost use Rattle.omega.specs.Automata.{mostSignals};
+ghost use Rattle.tables.specs.Cells.{mostTableStates, tableCells, StateAdded, StepsAdded};
+
+/// The most states of a table.
+const MOST_TABLE_STATES: u32 = 64;
+
+/// The most signals of a table.
+const MOST_SIGNALS: u32 = 4;
+
+/// The cells of a table of 64 states.
+pub const TABLE_CELLS: usize = 4_096;
+
+/// A table of at most 64 states and 4 signals that holds its cells itself.
+#[derive(Clone, Copy)]
+pub struct Draft {
+    pub(crate) states: u32,
+    pub(crate) signals: u32,
+    pub(crate) starts: u64,
+    pub(crate) goods: u64,
+    pub(crate) cells: [u16; TABLE_CELLS],
+    ghost few: { states ≤ mostTableStates },
+    ghost narrow: { signals ≤ mostSignals },
+    ghost starts_in: { starts < 2 ^ states },
+    ghost goods_in: { goods < 2 ^ states },
+    ghost letters: { (k : ℕ) → getD cells k 0 < 2 ^ (2 ^ signals) },
+    ghost rest: { (k : ℕ) → states * states ≤ k → getD cells k 0 ≡ 0 },
+}
+
+impl Draft {
+    /// A draft without starts, good states and steps; none where there are more than 64 states or 4 signals.
+    pub fn new(states: u32, signals: u32) -> Option<Draft>
+        ensures { λ r. ⌜ Cases r (states ≤ mostTableStates → signals ≤ mostSignals → ⊥) (λ x. (x .states ≡ states) × (x .signals ≡ signals) × (x .starts ≡ 0) × (x .goods ≡ 0) × (x .cells ≡ replicate tableCells 0)) ⌝ }
+    {
+        if states > MOST_TABLE_STATES || signals > MOST_SIGNALS {
+            return None;
+        }
+        Some(Draft { states, signals, starts: 0, goods: 0, cells: [0; TABLE_CELLS] })
+    }
+
+    /// Makes `s` a start, if it is a state.
+    pub fn add_start(&mut self, s: u32)
+        ensures start { λ _. ⌜ StateAdded (now (self .entry) .states) s (now (self .entry) .starts) (now (self .exit) .starts) ⌝ }
+        ensures same { λ _. ⌜ (now (self .exit) .states ≡ now (self .entry) .states) × (now (self .exit) .signals ≡ now (self .entry) .signals) × (now (self .exit) .goods ≡ now (self .entry) .goods) × (now (self .exit) .cells ≡ now (self .entry) .cells) ⌝ }
+    {
+        if s < self.states {
+            self.starts |= 1 << s;
+        }
+    }
+
+    /// Makes `s` good, if it is a state.
+    pub fn add_good(&mut self, s: u32)
+        ensures good { λ _. ⌜ StateAdded (now (self .entry) .states) s (now (self .entry) .goods) (now (self .exit) .goods) ⌝ }
+        ensures same { λ _. ⌜ (now (self .exit) .states ≡ now (self .entry) .states) × (now (self .exit) .signals ≡ now (self .entry) .signals) × (now (self .exit) .starts ≡ now (self .entry) .starts) × (now (self .exit) .cells ≡ now (self .entry) .cells) ⌝ }
+    {
+        if s < self.states {
+            self.goods |= 1 << s;
+        }
+    }
+
+    /// Adds a step from `s` to `t` by each letter whose bit is 1, if both are states; bits that are no letter count for nothing.
+    pub fn add_steps(&mut self, s: u32, letters: u16, t: u32)
+        ensures steps { λ _. ⌜ StepsAdded (now (self .entry) .states) (now (self .entry) .signals) s letters t (now (self .entry) .cells) (now (self .exit) .cells) ⌝ }
+        ensures same { λ _. ⌜ (now (self .exit) .states ≡ now (self .entry) .states) × (now (self .exit) .signals ≡ now (self .entry) .signals) × (now (self .exit) .starts ≡ now (self .entry) .starts) × (now (self .exit) .goods ≡ now (self .entry) .goods) ⌝ }
+    {
+        if s >= self.states || t >= self.states {
+            return;
+        }
+        let all = ((1u32 << (1u32 << self.signals)) - 1) as u16;
+        let at = (s * self.states + t) as usize;
+        self.cells[at] |= letters & all;
+    }
+}
