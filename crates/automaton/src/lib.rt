@@ -4,14 +4,15 @@
 mod automaton;
 mod pair;
 mod refusal;
+mod repeated;
+mod settled;
 mod signal;
-mod watch;
 
 pub use automaton::Automaton;
 pub use pair::Pair;
 pub use pair::PairAutomaton;
 pub use refusal::PartsRefusal;
-pub use watch::Again;
-pub use watch::AgainAutomaton;
-pub use watch::Settles;
-pub use watch::SettlesAutomaton;
+pub use repeated::Again;
+pub use repeated::AgainAutomaton;
+pub use settled::Settles;
+pub use settled::SettlesAutomaton;

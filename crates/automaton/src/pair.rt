@@ -2,14 +2,13 @@
 ghost use Prim.Native.Nat.{ℕ, _+_, _*_, _/_, _^_, _<_, _≤_};
 ghost use mathlib.Core.Path.{_≡_};
 ghost use mathlib.Core.Bool.{Bool, true, false, cond};
-ghost use mathlib.Core.Logic.{_↔_};
 ghost use lib.Dec.{eqb};
 ghost use denote.Ref.{now};
 ghost use Rattle.std.specs.declared.option.Option.the-variants.{Some};
 ghost use Rattle.std.specs.Options.{Cases as BySome};
 ghost use Rattle.std.specs.Results.{Cases};
-ghost use Rattle.omega.specs.Automata.{Meaning, Lowest};
-ghost use Rattle.omega.specs.Words.{Word, Accepted};
+ghost use Rattle.omega.specs.Automata.{Meaning, Lowest, mostStates};
+ghost use Rattle.omega.specs.Words.{AcceptsBoth};
 ghost use Rattle.omega.specs.Pairs.{pair, turned};
 ghost use Rattle.omega.specs.Cached.{usable, cached, place, NoneInRow};
 ghost use Rattle.omega.proofs.Caching.{cached-sound};
@@ -24,7 +23,7 @@ const MOST_STATES: u32 = 65_536;
 /// Two automata side by side on one word.
 ///
 /// State (u, v, c) has the number (u × columns + v) × 2 + c, where c is 1 while the second part is waited for.
-#[derive(Clone, Copy)]
+#[derive(Drop)]
 pub struct Pair<'a, 'b, A, B> {
     first: &'a A,
     second: &'b B,
@@ -37,7 +36,7 @@ impl<'a, 'b, A: Automaton, B: Automaton> Pair<'a, 'b, A, B> {
     pub fn new(first: &'a A, second: &'b B) -> Result<Pair<'a, 'b, A, B>, PartsRefusal>
         ensures fits { λ r. ⌜ Cases r (λ x. Fit (A·Automaton .meaning (now (first .entry))) (B·Automaton .meaning (now (second .entry)))) (Unfit (A·Automaton .meaning (now (first .entry))) (B·Automaton .meaning (now (second .entry)))) ⌝ }
         ensures means { λ r. ⌜ Cases r (λ x. cached (x .states) (x .columns) (A·Automaton .meaning (now (x .first))) (B·Automaton .meaning (now (x .second))) ≡ pair (A·Automaton .meaning (now (first .entry))) (B·Automaton .meaning (now (second .entry)))) (λ _. Unit {0}) ⌝ }
-        ensures accepts { λ r. ⌜ Cases r (λ x. (w : Word) → Accepted (cached (x .states) (x .columns) (A·Automaton .meaning (now (x .first))) (B·Automaton .meaning (now (x .second)))) w ↔ (Accepted (A·Automaton .meaning (now (first .entry))) w × Accepted (B·Automaton .meaning (now (second .entry))) w)) (λ _. Unit {0}) ⌝ }
+        ensures accepts { λ r. ⌜ Cases r (λ x. AcceptsBoth (cached (x .states) (x .columns) (A·Automaton .meaning (now (x .first))) (B·Automaton .meaning (now (x .second)))) (A·Automaton .meaning (now (first .entry))) (B·Automaton .meaning (now (second .entry)))) (λ _. Unit {0}) ⌝ }
     {
         if first.signals() != second.signals() {
             return Err(PartsRefusal::SignalsDiffer);
@@ -47,7 +46,23 @@ impl<'a, 'b, A: Automaton, B: Automaton> Pair<'a, 'b, A, B> {
         if states > MOST_STATES as u64 {
             return Err(PartsRefusal::TooManyStates);
         }
-        Ok(Pair { first, second, states: states as u32, columns })
+        Ok(Pair::of(first, second, states as u32, columns))
+    }
+
+    /// The pair of parts that fit, whose states and columns are these.
+    fn of(first: &'a A, second: &'b B, states: u32, columns: u32) -> Pair<'a, 'b, A, B>
+        requires states { ⌜ states ≡ A·Automaton .meaning (now first) .states * B·Automaton .meaning (now second) .states * 2 ⌝ }
+        requires columns { ⌜ columns ≡ B·Automaton .meaning (now second) .states ⌝ }
+        requires fit { ⌜ states ≤ mostStates ⌝ }
+        ensures means { λ r. ⌜ cached (r .states) (r .columns) (A·Automaton .meaning (now (r .first))) (B·Automaton .meaning (now (r .second))) ≡ pair (A·Automaton .meaning (now (first .entry))) (B·Automaton .meaning (now (second .entry))) ⌝ }
+        ensures accepts { λ r. ⌜ AcceptsBoth (cached (r .states) (r .columns) (A·Automaton .meaning (now (r .first))) (B·Automaton .meaning (now (r .second)))) (A·Automaton .meaning (now (first .entry))) (B·Automaton .meaning (now (second .entry))) ⌝ }
+    {
+        Pair {
+            first,
+            second,
+            states,
+            columns,
+        }
     }
 
     /// How many states there are: those that were counted when the pair was made.
@@ -106,7 +121,11 @@ impl<'a, 'b, A: Automaton, B: Automaton> Pair<'a, 'b, A, B> {
         let Some(q) = self.second.next(v, a, 0) else {
             return None;
         };
-        if q < w { Some(p as u64 * w as u64 + q as u64) } else { None }
+        if q < w {
+            Some(p as u64 * w as u64 + q as u64)
+        } else {
+            None
+        }
     }
 }
 
@@ -125,7 +144,10 @@ pub impl<A: Automaton, B: Automaton> Automaton for Pair<'_, '_, A, B> as PairAut
 
     fn is_start(&self, s: u32) -> bool {
         let w = self.columns;
-        s < self.size() && s % 2 != 1 && self.first.is_start(s / 2 / w) && self.second.is_start(s / 2 % w)
+        s < self.size()
+            && s % 2 != 1
+            && self.first.is_start(s / 2 / w)
+            && self.second.is_start(s / 2 % w)
     }
 
     fn is_good(&self, s: u32) -> bool {

@@ -6,6 +6,8 @@ mod class;
 mod count;
 mod fault;
 mod scan;
+#[cfg(test)]
+mod tests;
 mod text;
 mod token;
 

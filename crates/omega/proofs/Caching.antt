@@ -1,14 +1,13 @@
 -- A pair that keeps the numbers of fitting parts means the pair of these parts.
 use mathlib.Core.Path.{_≡_, refl, sym, ap, _∙_, subst}
 use mathlib.Core.Bool.{Bool, true, false, cond}
-use mathlib.Core.Logic.{_↔_}
 use Prim.Native.Nat.{ℕ, _*_, _<_, _≤_, min}
 use native.Mathlib.Omega.{arith}
 use native.Mathlib.Nat.{mul-zero}
 use lib.Dec.{eqb}
 use borrow.Author.Tests.{eqb-true, eqb-false}
 use Rattle.omega.specs.Automata.{Meaning, Sound, mostStates}
-use Rattle.omega.specs.Words.{Word, Accepted}
+use Rattle.omega.specs.Words.{AcceptsBoth}
 use Rattle.omega.specs.Pairs.{numbered, pair}
 use Rattle.omega.specs.Cached.{usable, cached}
 use Rattle.omega.proofs.Soundness.{numbered-sound}
@@ -45,5 +44,5 @@ module _ (A B : Meaning) (n w : ℕ) (states : n ≡ A .states * B .states * 2) 
       ap (λ k. cached k w A B) states ∙ ap (λ v. cached (A .states * B .states * 2) v A B) columns
       ∙ ap (λ k. numbered k (B .states) A B) (usable-fit (A .states) (B .states) fit)
 
-  pub cached-accepts : Sound A → Sound B → (word : Word) → Accepted (cached n w A B) word ↔ (Accepted A word × Accepted B word)
-  cached-accepts sa sb word = subst (λ M. Accepted M word ↔ (Accepted A word × Accepted B word)) (sym cached-pair) (pair-accepts-both A B sa sb word)
+  pub cached-accepts : Sound A → Sound B → AcceptsBoth (cached n w A B) A B
+  cached-accepts sa sb = subst (λ M. AcceptsBoth M A B) (sym cached-pair) (pair-accepts-both A B sa sb)

@@ -12,7 +12,5 @@ pub mod Turns
 pub mod Pairing
 pub mod Soundness
 pub mod Watching
-pub mod Lowest
 pub mod Places
-pub mod Targets
 pub mod Caching

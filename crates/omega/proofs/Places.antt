@@ -6,27 +6,13 @@ use Prim.Native.Nat.{ℕ, _+_, _-_, _*_, _/_, _%_, _<_, _≤_}
 use native.Mathlib.Nat.{mul-le-mul-right, add-mul, one-mul}
 use native.Mathlib.Omega.{arith}
 use lib.Arith.{digits-div, digits-mod}
-use lib.Dec.{T, eqb, eqb→eq, eqb-refl}
+use lib.Dec.{T}
 use Rattle.std.proofs.shelf.Bits.{le-div, div-add-mod', mod-below}
 use Rattle.std.proofs.shelf.Tests.{cases-lt}
 use Rattle.std.specs.declared.option.Option.the-variants.{Some, None}
 use Rattle.omega.specs.Automata.{Lowest}
 use Rattle.omega.specs.Cached.{place, NoneInRow}
 use Rattle.omega.proofs.Tests.{both-pass, parts-pass}
-
--- the four ways to find that: the row does not pass, or no column passes from that of g on
-module _ (P Q : ℕ → Bool) (w g : ℕ) where
-  pub row-missing : Lowest P (g / w) None → NoneInRow P Q w g
-  row-missing missing = record { none = λ k h inside row column. missing (g / w) (omega arith) row }
-
-  pub row-later : (p : ℕ) → Lowest P (g / w) (Some p) → (p ≡ g / w → ⊥) → NoneInRow P Q w g
-  row-later p (late, _, first) other = record { none = λ k h inside row column. first (g / w) (omega arith) (omega arith) row }
-
-  pub column-missing : Lowest Q (g % w) None → NoneInRow P Q w g
-  column-missing missing = record { none = λ k h inside row column. missing k h column }
-
-  pub column-past : (q : ℕ) → Lowest Q (g % w) (Some q) → w ≤ q → NoneInRow P Q w g
-  column-past q (_, _, first) past = record { none = λ k h inside row column. first k h (omega arith) column }
 
 -- a place among the first c of row r
 place-parts : (w r c k : ℕ) → c ≤ w → r * w ≤ k → k < r * w + c → (k / w ≡ r) × (k % w < c)
@@ -52,7 +38,7 @@ module _ (P Q : ℕ → Bool) (w : ℕ) (wide : 0 < w) (g : ℕ) where
   place-passes r c inside row column =
       both-pass _ _ (subst (λ x. T (P x)) (sym (digits-div r inside)) row) (subst (λ x. T (Q x)) (sym (digits-mod r inside)) column)
 
-  -- the five outcomes of the search
+  -- where the search ends: in the row of g, in a later row, or nowhere
   pub place-in-row : (p q : ℕ) → Lowest P (g / w) (Some p) → p ≡ g / w → Lowest Q (g % w) (Some q) → q < w → Lowest (place P Q w) g (Some (g / w * w + q))
   place-in-row p q (_, row, _) here (late, column, first) inside = (
     omega (arith, div-add-mod' g w),
@@ -79,32 +65,3 @@ module _ (P Q : ℕ → Bool) (w : ℕ) (wide : 0 < w) (g : ℕ) where
 
   pub no-later-row : NoneInRow P Q w g → Lowest P (g / w + 1) None → Lowest (place P Q w) g None
   no-later-row none missing k h passes = missing (k / w) (in-later-row none k h passes) (parts-pass (P (k / w)) (Q (k % w)) passes .0)
-
-  pub no-column : Lowest Q 0 None → Lowest (place P Q w) g None
-  no-column missing k h passes = missing (k % w) (omega arith) (parts-pass (P (k / w)) (Q (k % w)) passes .1)
-
-  pub no-column-inside : (q : ℕ) → Lowest Q 0 (Some q) → w ≤ q → Lowest (place P Q w) g None
-  no-column-inside q (_, column, first) past k h passes =
-      first (k % w) (omega arith) (omega (arith, mod-below k w wide)) (parts-pass (P (k / w)) (Q (k % w)) passes .1)
-
--- the number y, of place y / 2 and turn y % 2, passes if its turn is c and its place passes
-abbrev pub at-turn : ℕ → (ℕ → Bool) → ℕ → Bool
-at-turn c test y = eqb (y % 2) c && test (y / 2)
-
--- g is the lowest place whose number of turn c is not below f
-module _ (test : ℕ → Bool) (c f g : ℕ) (digit : c < 2) (reaches : f ≤ g * 2 + c) (lowest : g * 2 + c < f + 2) where
-  from-place : (y : ℕ) → f ≤ y → T (at-turn c test y) → (g ≤ y / 2) × (y % 2 ≡ c) × T (test (y / 2))
-  from-place y h passes =
-      let (turned, there) = parts-pass (eqb (y % 2) c) (test (y / 2)) passes in
-      let e : y % 2 ≡ c = eqb→eq (y % 2) c turned in
-      (omega arith, e, there)
-
-  pub turn-found : (k : ℕ) → Lowest test g (Some k) → Lowest (at-turn c test) f (Some (k * 2 + c))
-  turn-found k (late, passes, first) = (
-    omega arith,
-    both-pass _ _ (subst (λ d. T (eqb d c)) (sym (digits-mod k digit)) (eqb-refl c)) (subst (λ x. T (test x)) (sym (digits-div k digit)) passes),
-    λ y h before now. let (from, e, there) = from-place y h now in first (y / 2) from (omega arith) there,
-  )
-
-  pub turn-none : Lowest test g None → Lowest (at-turn c test) f None
-  turn-none none y h now = let (from, e, there) = from-place y h now in none (y / 2) from there

@@ -4,7 +4,7 @@ use mathlib.Core.Bool.{Bool}
 use mathlib.Core.Logic.{_⊎_, _↔_}
 use Prim.Native.Nat.{ℕ, _^_, _<_, _≤_}
 use Rattle.omega.specs.Automata.{Meaning, Sound, Same}
-use Rattle.omega.specs.Words.{Word, Over, Often, Seldom, Accepted, SomeWord}
+use Rattle.omega.specs.Words.{Word, Over, Often, Seldom, Accepted, AcceptsBoth, SomeWord}
 use Rattle.omega.specs.Lassos.{SomeLasso}
 use Rattle.omega.specs.Rankings.{Ranking, SomeLeast}
 use Rattle.omega.specs.Pairs.{pair}
@@ -28,7 +28,7 @@ Lasso-or-least = (A : Meaning) → Sound A → SomeLasso A ⊎ SomeLeast A
 
 -- a word is accepted by a pair exactly when both parts accept it
 abbrev pub Pair-accepts-both : Type 0
-Pair-accepts-both = (A B : Meaning) → Sound A → Sound B → (w : Word) → Accepted (pair A B) w ↔ (Accepted A w × Accepted B w)
+Pair-accepts-both = (A B : Meaning) → Sound A → Sound B → AcceptsBoth (pair A B) A B
 
 -- again i accepts the words in which i is on infinitely often
 abbrev pub Again-accepts : ℕ → ℕ → Type 0

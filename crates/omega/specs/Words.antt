@@ -1,5 +1,6 @@
 -- Promise. Endless words, runs on them, and when a word is accepted.
 use mathlib.Core.Bool.{Bool}
+use mathlib.Core.Logic.{_↔_}
 use Prim.Native.Nat.{ℕ, _+_, _^_, _<_, _≤_}
 use lib.Dec.{T}
 use Rattle.omega.specs.Automata.{Meaning}
@@ -37,3 +38,7 @@ SomeWord A = (w : Word) × Accepted A w
 -- some endless word is accepted by both
 abbrev pub SharedWord : Meaning → Meaning → Type 0
 SharedWord A B = (w : Word) × Accepted A w × Accepted B w
+
+-- M accepts a word exactly when A and B both do
+abbrev pub AcceptsBoth : Meaning → Meaning → Meaning → Type 0
+AcceptsBoth M A B = (w : Word) → Accepted M w ↔ (Accepted A w × Accepted B w)

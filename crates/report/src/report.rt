@@ -73,11 +73,19 @@ fn report_text(heap: Global, source: Source, text: Text<'_>) -> Result<Report, A
 }
 
 /// What is said of a file: of its bytes, or that it cannot be read.
-pub fn report_file(heap: Global, source: Source, file: &Option<Vec<u8>>) -> Result<Report, AllocError>
+pub fn report_file(
+    heap: Global,
+    source: Source,
+    file: &Option<Vec<u8>>,
+) -> Result<Report, AllocError>
     ensures { λ r. ⌜ made r (λ x. Reported source (mapped vec-items (now (file .entry))) (vec-items (x .lines)) (x .sound)) ⌝ }
 {
     let Some(bytes) = file else {
-        let fault = Fault { refusal: Refusal::Unreadable, place: 0, layer: Layer::Bytes };
+        let fault = Fault {
+            refusal: Refusal::Unreadable,
+            place: 0,
+            layer: Layer::Bytes,
+        };
         return Ok(stop(refused_line(heap, source, fault)?));
     };
     match Text::new(bytes.as_slice()) {

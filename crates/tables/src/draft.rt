@@ -39,7 +39,13 @@ impl Draft {
         if states > MOST_TABLE_STATES || signals > MOST_SIGNALS {
             return None;
         }
-        Some(Draft { states, signals, starts: 0, goods: 0, cells: [0; TABLE_CELLS] })
+        Some(Draft {
+            states,
+            signals,
+            starts: 0,
+            goods: 0,
+            cells: [0; TABLE_CELLS],
+        })
     }
 
     /// Makes `s` a start, if it is a state.

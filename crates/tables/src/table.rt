@@ -36,7 +36,13 @@ impl<'a> Table<'a> {
         ensures lends { λ r. ⌜ (name (r .cells) ≡ name (cells .entry)) × (now (r .cells) ≡ now (cells .entry)) ⌝ }
         ensures blank { λ r. ⌜ (r .states ≡ 0) × (r .signals ≡ 0) × (r .starts ≡ 0) × (r .goods ≡ 0) ⌝ }
     {
-        Table { cells, states: 0, signals: 0, starts: 0, goods: 0 }
+        Table {
+            cells,
+            states: 0,
+            signals: 0,
+            starts: 0,
+            goods: 0,
+        }
     }
 }
 

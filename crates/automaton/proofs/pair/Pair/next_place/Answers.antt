@@ -17,4 +17,5 @@ returns-then-q-w g c =
     let few = g .A·Automaton .sound (c .args .self .now .first .now) .few in
     record {
       is = place-in-later-row _ _ (c .args .self .now .columns) (c .pre .wide) (c .args .g) (c .in-Some-next .p) (c .in-Some-next-2 .q) (c .in-rest .ensures tt) (c .in-Some-next .ensures tt .is) (c .in-Some-next-2 .ensures tt .is) (c .if-q-w .taken);
-      small = place-small (c .in-Some-next .p) (c .args .self .now .columns) (c .in-Some-next-2 .q) (omega (arith, c .in-Some-next .ensures tt .lands)) (omega arith) (c .if-q-w .taken) }
+      small = place-small (c .in-Some-next .p) (c .args .self .now .columns) (c .in-Some-next-2 .q) (omega (arith, c .in-Some-next .ensures tt .lands)) (omega arith) (c .if-q-w .taken);
+    }
