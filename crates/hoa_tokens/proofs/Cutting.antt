@@ -30,9 +30,9 @@ one-cut text (x ∷ xs) (y ∷ ys) from c d =
     let rest : ys ≡ xs = one-rest text x xs ys (λ next e f. one-cut text xs ys next e f) (c .1) (subst (λ z. Behind (λ next. Cut text next ys) (ys ≡ []) z) same (d .1)) in
     ap (λ z. z ∷ ys) same ∙ ap (λ zs. x ∷ zs) rest
 
--- these are the tokens up to a position: a cut from there completes them to one of the whole text
-abbrev pub Grown : List ℕ → ℕ → List Found → Type 0
-Grown text from tokens = (rest : List Found) → Cut text from rest → Cut text 0 (tokens ++ rest)
+-- these are the tokens between two positions: a cut from the later one completes them to one from the earlier
+abbrev pub Grown : List ℕ → ℕ → ℕ → List Found → Type 0
+Grown text start from tokens = (rest : List Found) → Cut text from rest → Cut text start (tokens ++ rest)
 
 -- a token that is not the end is one more, and the text goes on behind it
 on : (t : Token) (place next : ℕ) (more : ℕ → Type 0) (none : Type 0) → (t ≡ case.End → ⊥) → more next → Behind more none (token (lexeme t) place next)
@@ -49,29 +49,29 @@ ahead-of (case.Name w) text from place next go h = h
 ahead-of (case.Mark m) text from place next go h = h
 ahead-of case.End text from place next go h = absurd (go refl)
 
-pub grown-more : (t : Token) (text : List ℕ) (from place next : ℕ) (tokens : List Found) → Grown text from tokens → (t ≡ case.End → ⊥) → Scanned text from (token (lexeme t) place next) → Grown text next (tokens ++ token (lexeme t) place next ∷ [])
-grown-more t text from place next tokens g go s rest c =
+pub grown-more : (t : Token) (text : List ℕ) (start from place next : ℕ) (tokens : List Found) → Grown text start from tokens → (t ≡ case.End → ⊥) → Scanned text from (token (lexeme t) place next) → Grown text start next (tokens ++ token (lexeme t) place next ∷ [])
+grown-more t text start from place next tokens g go s rest c =
     let x : Found = token (lexeme t) place next in
-    subst (Cut text 0) (sym (append-assoc tokens (x ∷ []) rest)) (g (x ∷ rest) (s, on t place next (λ i. Cut text i rest) (rest ≡ []) go c))
+    subst (Cut text start) (sym (append-assoc tokens (x ∷ []) rest)) (g (x ∷ rest) (s, on t place next (λ i. Cut text i rest) (rest ≡ []) go c))
 
 -- the end, or a fault, ends the cut
-pub grown-end : (t : Token) (text : List ℕ) (from place next : ℕ) (tokens : List Found) → Grown text from tokens → t ≡ case.End → Scanned text from (token (lexeme t) place next) → Cut text 0 (tokens ++ token (lexeme t) place next ∷ [])
-grown-end t text from place next tokens g is s =
+pub grown-end : (t : Token) (text : List ℕ) (start from place next : ℕ) (tokens : List Found) → Grown text start from tokens → t ≡ case.End → Scanned text from (token (lexeme t) place next) → Cut text start (tokens ++ token (lexeme t) place next ∷ [])
+grown-end t text start from place next tokens g is s =
     g (token (lexeme t) place next ∷ []) (s, subst (λ k. Behind (λ i. Cut text i []) (_≡_ {A = List Found} [] []) (token (lexeme k) place next)) (sym is) refl)
 
-pub grown-fault : (text : List ℕ) (from : ℕ) (f : Fault) (tokens : List Found) → Grown text from tokens → Scanned text from (fault f) → Cut text 0 (tokens ++ fault f ∷ [])
-grown-fault text from f tokens g s = g (fault f ∷ []) (s, refl)
+pub grown-fault : (text : List ℕ) (start from : ℕ) (f : Fault) (tokens : List Found) → Grown text start from tokens → Scanned text from (fault f) → Cut text start (tokens ++ fault f ∷ [])
+grown-fault text start from f tokens g s = g (fault f ∷ []) (s, refl)
 
-counted : (text : List ℕ) (finds : List Found) (r : Result ℕ Fault) → Cut text 0 finds → Ends text finds r → Counted text r
-counted text finds r c e = record { finds = finds; cut = c; one = λ others d. one-cut text finds others 0 c d; ends = e }
+counted : (text : List ℕ) (start : ℕ) (finds : List Found) (r : Result ℕ Fault) → Cut text start finds → Ends text finds r → Counted text start r
+counted text start finds r c e = record { finds = finds; cut = c; one = λ others d. one-cut text finds others start c d; ends = e }
 
-pub counted-end : (text : List ℕ) (from place next : ℕ) (tokens : List Found) (n : ℕ) → Grown text from tokens → length tokens ≡ n → Ahead text from (token end place next) → Scanned text from (token end place next) → Counted text (Ok n)
-counted-end text from place next tokens n g long a s =
+pub counted-end : (text : List ℕ) (start from place next : ℕ) (tokens : List Found) (n : ℕ) → Grown text start from tokens → length tokens ≡ n → Ahead text from (token end place next) → Scanned text from (token end place next) → Counted text start (Ok n)
+counted-end text start from place next tokens n g long a s =
     let is : token end place next ≡ token end (length text) (length text) = ap (λ i. token end i next) (a .0) ∙ ap (token end (length text)) (a .1) in
-    counted text (tokens ++ token end place next ∷ []) (Ok n) (g (token end place next ∷ []) (s, refl)) (tokens, ap (λ x. tokens ++ x ∷ []) is, long)
+    counted text start (tokens ++ token end place next ∷ []) (Ok n) (g (token end place next ∷ []) (s, refl)) (tokens, ap (λ x. tokens ++ x ∷ []) is, long)
 
-pub counted-fault : (text : List ℕ) (from : ℕ) (f : Fault) (tokens : List Found) → Grown text from tokens → Scanned text from (fault f) → Counted text (Err f)
-counted-fault text from f tokens g s = counted text (tokens ++ fault f ∷ []) (Err f) (grown-fault text from f tokens g s) (tokens, refl)
+pub counted-fault : (text : List ℕ) (start from : ℕ) (f : Fault) (tokens : List Found) → Grown text start from tokens → Scanned text from (fault f) → Counted text start (Err f)
+counted-fault text start from f tokens g s = counted text start (tokens ++ fault f ∷ []) (Err f) (grown-fault text start from f tokens g s) (tokens, refl)
 
 -- a position within the text is not clipped
 pub unclipped : (P : ℕ → Type 0) (text : List ℕ) (from : ℕ) → from ≤ length text → P (clipped text from) → P from

@@ -27,9 +27,9 @@ abbrev pub Ends : List ℕ → List Found → Result ℕ Fault → Type 0
 Ends text xs (Ok n) = (tokens : List Found) × (xs ≡ tokens ++ token end (length text) (length text) ∷ []) × (length tokens ≡ n)
 Ends text xs (Err f) = (tokens : List Found) × (xs ≡ tokens ++ fault f ∷ [])
 
--- the text has just one cut from its first byte, and it ends so
-pub record Counted (text : List ℕ) (r : Result ℕ Fault) : Type 0 where
+-- the text has just one cut from the position on, and it ends so
+pub record Counted (text : List ℕ) (from : ℕ) (r : Result ℕ Fault) : Type 0 where
   pub finds : List Found
-  pub cut : Cut text 0 finds
-  pub one : (others : List Found) → Cut text 0 others → others ≡ finds
+  pub cut : Cut text from finds
+  pub one : (others : List Found) → Cut text from others → others ≡ finds
   pub ends : Ends text finds r

@@ -171,6 +171,16 @@ fn token_at<'a>(text: &'a [u8], place: usize) -> Result<Placed<'a>, Fault>
     })
 }
 
+/// The first token at or behind `from`, with its place.
+fn scan_from<'a>(text: &'a [u8], from: usize) -> Result<Placed<'a>, Fault>
+    requires { ⌜ from ≤ length (now text) ⌝ }
+    ensures scanned { λ r. ⌜ Scanned (now (text .entry)) from (found r) ⌝ }
+    ensures ahead { λ r. ⌜ Ahead (now (text .entry)) from (found r) ⌝ }
+{
+    let place = run_end(text, from, Class::Blank);
+    token_at(text, place)
+}
+
 impl<'a> Text<'a> {
     /// The first token at or behind a position, with its place; a position past the end counts as the end.
     pub fn scan(self, from: usize) -> Result<Placed<'a>, Fault>
@@ -178,7 +188,6 @@ impl<'a> Text<'a> {
         ensures ahead { λ r. ⌜ Ahead (now (self .entry .bytes)) (clipped (now (self .entry .bytes)) from) (found r) ⌝ }
     {
         let text = self.bytes;
-        let place = run_end(text, from.min(text.len()), Class::Blank);
-        token_at(text, place)
+        scan_from(text, from.min(text.len()))
     }
 }

@@ -69,7 +69,7 @@ TextLines source text (Ok n) lines sound = (listed : List ℕ) × Listing text l
 TextLines source text (Err f) lines sound = (lines ≡ noTokenLine source f) × (sound ≡ false)
 
 abbrev pub TextReported : Source → List ℕ → List ℕ → Bool → Type 0
-TextReported source text lines sound = (r : Result ℕ Fault) × Counted text r × TextLines source text r lines sound
+TextReported source text lines sound = (r : Result ℕ Fault) × Counted text 0 r × TextLines source text r lines sound
 
 -- what is said of a file, and whether the program goes on: a file that cannot be read is refused, and so is a text that is too long
 abbrev pub Reported : Source → Option (List ℕ) → List ℕ → Bool → Type 0
