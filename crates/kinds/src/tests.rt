@@ -1,0 +1,1 @@
+//! The kinds, at their boundaries.
