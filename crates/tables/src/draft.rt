@@ -1,5 +1,5 @@
 //! A table in memory of its own, to which starts, good states and steps are added.
-ghost use Prim.Native.Nat.{ℕ, _*_, _^_, _<_, _≤_};
+ghost use Prim.Native.Nat.{ℕ, _-_, _*_, _^_, _<_, _≤_};
 ghost use mathlib.Core.Path.{_≡_};
 ghost use lib.ListN.{length, getD, replicate};
 ghost use Rattle.std.specs.Options.{Cases};
@@ -53,9 +53,7 @@ impl Draft {
         ensures start { λ _. ⌜ StateAdded (now (self .entry) .states) s (now (self .entry) .starts) (now (self .exit) .starts) ⌝ }
         ensures same { λ _. ⌜ (now (self .exit) .states ≡ now (self .entry) .states) × (now (self .exit) .signals ≡ now (self .entry) .signals) × (now (self .exit) .goods ≡ now (self .entry) .goods) × (now (self .exit) .cells ≡ now (self .entry) .cells) ⌝ }
     {
-        if s < self.states {
-            self.starts |= 1 << s;
-        }
+        self.starts = with_state(self.starts, s, self.states);
     }
 
     /// Makes `s` good, if it is a state.
@@ -63,9 +61,7 @@ impl Draft {
         ensures good { λ _. ⌜ StateAdded (now (self .entry) .states) s (now (self .entry) .goods) (now (self .exit) .goods) ⌝ }
         ensures same { λ _. ⌜ (now (self .exit) .states ≡ now (self .entry) .states) × (now (self .exit) .signals ≡ now (self .entry) .signals) × (now (self .exit) .starts ≡ now (self .entry) .starts) × (now (self .exit) .cells ≡ now (self .entry) .cells) ⌝ }
     {
-        if s < self.states {
-            self.goods |= 1 << s;
-        }
+        self.goods = with_state(self.goods, s, self.states);
     }
 
     /// Adds a step from `s` to `t` by each letter whose bit is 1, if both are states; bits that are no letter count for nothing.
@@ -76,8 +72,28 @@ impl Draft {
         if s >= self.states || t >= self.states {
             return;
         }
-        let all = ((1u32 << (1u32 << self.signals)) - 1) as u16;
         let at = (s * self.states + t) as usize;
-        self.cells[at] |= letters & all;
+        self.cells[at] |= letters & all_letters(self.signals);
     }
+}
+
+/// A set of some states, with `s` in it if it is one of them.
+fn with_state(set: u64, s: u32, states: u32) -> u64
+    requires few { ⌜ states ≤ mostTableStates ⌝ }
+    requires within { ⌜ set < 2 ^ states ⌝ }
+    ensures added { λ r. ⌜ StateAdded states s set r ⌝ }
+    ensures within { λ r. ⌜ r < 2 ^ states ⌝ }
+{
+    if s >= states {
+        return set;
+    }
+    set | 1 << s
+}
+
+/// The set of all letters over some signals.
+fn all_letters(signals: u32) -> u16
+    requires { ⌜ signals ≤ mostSignals ⌝ }
+    ensures { λ r. ⌜ r ≡ 2 ^ (2 ^ signals) - 1 ⌝ }
+{
+    ((1u32 << (1u32 << signals)) - 1) as u16
 }

@@ -1,9 +1,10 @@
 //! Automata as tables over lent cells, and drafts that fill them.
 mod draft;
+mod questions;
 mod refusal;
 mod table;
 
 pub use draft::Draft;
+pub use questions::TableAutomaton;
 pub use refusal::LenderRefusal;
 pub use table::Table;
-pub use table::TableAutomaton;

@@ -5,23 +5,20 @@ ghost use lib.ListN.{length, getD, take, drop};
 ghost use denote.Ref.{now, name};
 ghost use Rattle.std.specs.Results.{Cases};
 ghost use Rattle.omega.specs.Automata.{mostSignals};
-ghost use Rattle.omega.specs.Tables.{table};
-ghost use Rattle.omega.proofs.Soundness.{table-sound};
 ghost use Rattle.tables.specs.declared.refusal.LenderRefusal.the-variants.{TooFewCells};
 ghost use Rattle.tables.specs.Cells.{mostTableStates, tableCells};
 use crate::draft::Draft;
 use crate::draft::TABLE_CELLS;
 use crate::refusal::LenderRefusal;
-use automaton::Automaton;
 
 /// An automaton of at most 64 states: bit a of cell s × states + t is 1 exactly for a step (s, a, t).
 #[derive(Drop)]
 pub struct Table<'a> {
-    cells: &'a mut [u16],
-    states: u32,
-    signals: u32,
-    starts: u64,
-    goods: u64,
+    pub(crate) cells: &'a mut [u16],
+    pub(crate) states: u32,
+    pub(crate) signals: u32,
+    pub(crate) starts: u64,
+    pub(crate) goods: u64,
     ghost few: { states ≤ mostTableStates },
     ghost narrow: { signals ≤ mostSignals },
     ghost room: { states * states ≤ length (now cells) },
@@ -64,51 +61,29 @@ impl Table<'_> {
         ensures table { λ r. ⌜ Cases r (λ _. (now (self .exit) .states ≡ now (draft .entry) .states) × (now (self .exit) .signals ≡ now (draft .entry) .signals) × (now (self .exit) .starts ≡ now (draft .entry) .starts) × (now (self .exit) .goods ≡ now (draft .entry) .goods)) (λ _. (now (self .exit) .states ≡ now (self .entry) .states) × (now (self .exit) .signals ≡ now (self .entry) .signals) × (now (self .exit) .starts ≡ now (self .entry) .starts) × (now (self .exit) .goods ≡ now (self .entry) .goods)) ⌝ }
     {
         self.check_room()?;
-        self.states = 0;
-        self.starts = 0;
-        self.goods = 0;
-        for i in 0..TABLE_CELLS {
-            self.cells[i] = draft.cells[i];
-        }
+        self.copy_cells(draft);
         self.states = draft.states;
         self.signals = draft.signals;
         self.starts = draft.starts;
         self.goods = draft.goods;
         Ok(())
     }
-}
 
-pub impl Automaton for Table<'_> as TableAutomaton {
-    ghost meaning = { λ x. table (x .states) (x .signals) (x .starts) (x .goods) (now (x .cells)) };
-
-    ghost sound = { λ x. table-sound (x .states) (x .signals) (x .starts) (x .goods) (now (x .cells)) (x .few) (x .narrow) (x .«starts_in») (x .«goods_in») (x .letters) };
-
-    fn states(&self) -> u32 {
-        self.states
-    }
-
-    fn signals(&self) -> u32 {
-        self.signals
-    }
-
-    fn is_start(&self, s: u32) -> bool {
-        s < self.states && (self.starts >> s) % 2 == 1
-    }
-
-    fn is_good(&self, s: u32) -> bool {
-        s < self.states && (self.goods >> s) % 2 == 1
-    }
-
-    fn next(&self, s: u32, a: u32, f: u32) -> Option<u32> {
-        if s >= self.states || a >= 1 << self.signals {
-            return None;
+    /// Copies the cells of a draft. No state is left, since a cell may hold what is no letter for the signals that the table still has.
+    fn copy_cells(&mut self, draft: &Draft)
+        requires { ⌜ tableCells ≤ length (now (now self .cells)) ⌝ }
+        ensures blank { λ _. ⌜ now (self .exit) .states ≡ 0 ⌝ }
+        ensures lender { λ _. ⌜ name (now (self .exit) .cells) ≡ name (now (self .entry) .cells) ⌝ }
+        ensures front { λ _. ⌜ take tableCells (now (now (self .exit) .cells)) ≡ now (draft .entry) .cells ⌝ }
+        ensures back { λ _. ⌜ drop tableCells (now (now (self .exit) .cells)) ≡ drop tableCells (now (now (self .entry) .cells)) ⌝ }
+        ensures room { λ _. ⌜ now (draft .entry) .states * now (draft .entry) .states ≤ length (now (now (self .exit) .cells)) ⌝ }
+        ensures letters { λ _. ⌜ ((k : ℕ) → k < now (draft .entry) .states * now (draft .entry) .states → getD (now (now (self .exit) .cells)) k 0 < 2 ^ (2 ^ now (draft .entry) .signals)) ⌝ }
+    {
+        self.states = 0;
+        self.starts = 0;
+        self.goods = 0;
+        for i in 0..TABLE_CELLS {
+            self.cells[i] = draft.cells[i];
         }
-        for t in f..self.states {
-            let cell = self.cells[(s * self.states + t) as usize];
-            if (cell >> a) % 2 == 1 {
-                return Some(t);
-            }
-        }
-        None
     }
 }

@@ -1,0 +1,4 @@
+pub mod Bits
+pub mod Added
+pub mod Copied
+pub mod Steps
