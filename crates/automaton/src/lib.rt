@@ -12,6 +12,8 @@ pub use automaton::Automaton;
 pub use pair::Pair;
 pub use pair::PairAutomaton;
 pub use refusal::PartsRefusal;
+pub use refusal::PartsRefusalDebug;
+pub use refusal::PartsRefusalPartialEq;
 pub use repeated::Again;
 pub use repeated::AgainAutomaton;
 pub use settled::Settles;

@@ -12,7 +12,7 @@ const MOST_STATIONS: u32 = 65_536;
 /// The most signals of a ring.
 const MOST_SIGNALS: u32 = 4;
 
-/// Stations in a ring: every letter leads on to the next one, and the first is start and good.
+/// Stations in a ring: every letter leads on to the next one, the first is the start, and the last is good.
 #[derive(Clone, Copy)]
 pub struct Ring {
     stations: u32,
@@ -60,7 +60,7 @@ pub impl Automaton for Ring as RingAutomaton {
     }
 
     fn is_good(&self, s: u32) -> bool {
-        s < self.stations && s == 0
+        s < self.stations && s + 1 == self.stations
     }
 
     fn next(&self, s: u32, a: u32, f: u32) -> Option<u32> {

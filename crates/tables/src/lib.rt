@@ -7,4 +7,6 @@ mod table;
 pub use draft::Draft;
 pub use questions::TableAutomaton;
 pub use refusal::LenderRefusal;
+pub use refusal::LenderRefusalDebug;
+pub use refusal::LenderRefusalPartialEq;
 pub use table::Table;
