@@ -8,12 +8,11 @@ ghost use Rattle.std.specs.declared.option.Option.the-variants.{Some};
 ghost use Rattle.std.specs.Options.{Cases as BySome};
 ghost use Rattle.std.specs.Results.{Cases};
 ghost use Rattle.omega.specs.Automata.{Meaning, Lowest, mostStates};
-ghost use Rattle.omega.specs.Words.{AcceptsBoth};
-ghost use Rattle.omega.specs.Pairs.{pair, turned};
+ghost use Rattle.omega.specs.Pairs.{turned};
 ghost use Rattle.omega.specs.Cached.{usable, cached, place, NoneInRow};
 ghost use Rattle.omega.proofs.Caching.{cached-sound};
 ghost use Rattle.automaton.specs.Questions.{Within};
-ghost use Rattle.automaton.specs.Refusals.{Fit, Unfit};
+ghost use Rattle.automaton.specs.Parts.{Paired, Unfit};
 use crate::automaton::Automaton;
 use crate::refusal::PartsRefusal;
 
@@ -34,9 +33,7 @@ pub struct Pair<'a, 'b, A, B> {
 impl<'a, 'b, A: Automaton, B: Automaton> Pair<'a, 'b, A, B> {
     /// The pair of two automata; refused where their signals differ, and else where it would have more than 65,536 states.
     pub fn new(first: &'a A, second: &'b B) -> Result<Pair<'a, 'b, A, B>, PartsRefusal>
-        ensures fits { λ r. ⌜ Cases r (λ x. Fit (A·Automaton .meaning (now (first .entry))) (B·Automaton .meaning (now (second .entry)))) (Unfit (A·Automaton .meaning (now (first .entry))) (B·Automaton .meaning (now (second .entry)))) ⌝ }
-        ensures means { λ r. ⌜ Cases r (λ x. cached (x .states) (x .columns) (A·Automaton .meaning (now (x .first))) (B·Automaton .meaning (now (x .second))) ≡ pair (A·Automaton .meaning (now (first .entry))) (B·Automaton .meaning (now (second .entry)))) (λ _. Unit {0}) ⌝ }
-        ensures accepts { λ r. ⌜ Cases r (λ x. AcceptsBoth (cached (x .states) (x .columns) (A·Automaton .meaning (now (x .first))) (B·Automaton .meaning (now (x .second)))) (A·Automaton .meaning (now (first .entry))) (B·Automaton .meaning (now (second .entry)))) (λ _. Unit {0}) ⌝ }
+        ensures { λ r. ⌜ Cases r (λ x. Paired (A·Automaton .meaning (now (first .entry))) (B·Automaton .meaning (now (second .entry))) (cached (x .states) (x .columns) (A·Automaton .meaning (now (x .first))) (B·Automaton .meaning (now (x .second))))) (Unfit (A·Automaton .meaning (now (first .entry))) (B·Automaton .meaning (now (second .entry)))) ⌝ }
     {
         if first.signals() != second.signals() {
             return Err(PartsRefusal::SignalsDiffer);
@@ -51,11 +48,11 @@ impl<'a, 'b, A: Automaton, B: Automaton> Pair<'a, 'b, A, B> {
 
     /// The pair of parts that fit, whose states and columns are these.
     fn of(first: &'a A, second: &'b B, states: u32, columns: u32) -> Pair<'a, 'b, A, B>
+        requires signals { ⌜ A·Automaton .meaning (now first) .signals ≡ B·Automaton .meaning (now second) .signals ⌝ }
         requires states { ⌜ states ≡ A·Automaton .meaning (now first) .states * B·Automaton .meaning (now second) .states * 2 ⌝ }
         requires columns { ⌜ columns ≡ B·Automaton .meaning (now second) .states ⌝ }
         requires fit { ⌜ states ≤ mostStates ⌝ }
-        ensures means { λ r. ⌜ cached (r .states) (r .columns) (A·Automaton .meaning (now (r .first))) (B·Automaton .meaning (now (r .second))) ≡ pair (A·Automaton .meaning (now (first .entry))) (B·Automaton .meaning (now (second .entry))) ⌝ }
-        ensures accepts { λ r. ⌜ AcceptsBoth (cached (r .states) (r .columns) (A·Automaton .meaning (now (r .first))) (B·Automaton .meaning (now (r .second)))) (A·Automaton .meaning (now (first .entry))) (B·Automaton .meaning (now (second .entry))) ⌝ }
+        ensures { λ r. ⌜ Paired (A·Automaton .meaning (now (first .entry))) (B·Automaton .meaning (now (second .entry))) (cached (r .states) (r .columns) (A·Automaton .meaning (now (r .first))) (B·Automaton .meaning (now (r .second)))) ⌝ }
     {
         Pair {
             first,

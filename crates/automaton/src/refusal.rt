@@ -1,6 +1,6 @@
 //! Why parts cannot be put together.
 ghost use mathlib.Core.Path.{_≡_};
-ghost use Rattle.automaton.specs.Refusals.{partsNumber};
+ghost use Rattle.automaton.specs.Parts.{partsNumber};
 
 /// Why parts cannot be put together. The number of a case is the one that is printed.
 #[derive(Clone, Copy, PartialEq, Eq, Debug)]

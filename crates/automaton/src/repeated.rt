@@ -1,12 +1,10 @@
 //! The automaton of a signal that comes on again and again.
-ghost use Prim.Native.Nat.{_<_, _≤_};
 ghost use mathlib.Core.Path.{_≡_};
 ghost use Rattle.std.specs.Results.{Cases};
 ghost use Rattle.omega.specs.Signals.{again};
 ghost use Rattle.omega.specs.Laws.{Again-accepts};
 ghost use Rattle.omega.proofs.Soundness.{again-sound};
-ghost use Rattle.automaton.specs.declared.refusal.PartsRefusal.the-variants.{NoSuchSignal};
-ghost use Rattle.automaton.specs.Refusals.{Watchable};
+ghost use Rattle.automaton.specs.Parts.{Watches, Unwatchable};
 use crate::automaton::Automaton;
 use crate::refusal::PartsRefusal;
 use crate::signal::GOOD;
@@ -23,7 +21,7 @@ pub struct Again {
 impl Again {
     /// The automaton for signal `index` of `count`; refused where there is no such signal, or `count` is above 4.
     pub fn new(index: u32, count: u32) -> Result<Again, PartsRefusal>
-        ensures made { λ r. ⌜ Cases r (λ x. (x .signal .index ≡ index) × (x .signal .count ≡ count) × Watchable index count) (λ e. (e ≡ NoSuchSignal) × (Watchable index count → ⊥)) ⌝ }
+        ensures made { λ r. ⌜ Cases r (λ x. Watches index count (x .signal .index) (x .signal .count)) (Unwatchable index count) ⌝ }
         ensures accepts { λ r. ⌜ Cases r (λ x. Again-accepts (x .signal .index) (x .signal .count)) (λ _. Unit {0}) ⌝ }
     {
         let signal = Signal::new(index, count)?;

@@ -5,8 +5,7 @@ ghost use lib.Dec.{ltb};
 ghost use Rattle.std.specs.Results.{Cases};
 ghost use Rattle.omega.specs.Automata.{mostSignals};
 ghost use Rattle.omega.specs.Signals.{bit};
-ghost use Rattle.automaton.specs.declared.refusal.PartsRefusal.the-variants.{NoSuchSignal};
-ghost use Rattle.automaton.specs.Refusals.{Watchable};
+ghost use Rattle.automaton.specs.Parts.{Watches, Unwatchable};
 use crate::refusal::PartsRefusal;
 
 /// The most signals that an automaton may have.
@@ -31,7 +30,7 @@ pub struct Signal {
 impl Signal {
     /// Signal `index` of `count`, or a refusal where there is none.
     pub(crate) fn new(index: u32, count: u32) -> Result<Signal, PartsRefusal>
-        ensures { λ r. ⌜ Cases r (λ x. (x .index ≡ index) × (x .count ≡ count) × Watchable index count) (λ e. (e ≡ NoSuchSignal) × (Watchable index count → ⊥)) ⌝ }
+        ensures { λ r. ⌜ Cases r (λ x. Watches index count (x .index) (x .count)) (Unwatchable index count) ⌝ }
     {
         if index < count && count <= MOST_SIGNALS {
             return Ok(Signal { index, count });

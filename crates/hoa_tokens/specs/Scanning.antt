@@ -9,13 +9,14 @@ use Rattle.std.specs.declared.result.Result.{Result}
 use Rattle.std.specs.declared.result.Result.the-variants.{Ok, Err}
 use Rattle.hoa_tokens.specs.declared.fault.Fault.{Fault}
 use Rattle.hoa_tokens.specs.declared.fault.Refusal.{Refusal}
-use Rattle.hoa_tokens.specs.declared.fault.Refusal.the-variants.{BadByte, BadNumber}
+use Rattle.hoa_tokens.specs.declared.fault.Refusal.the-variants.{BadByte, BadNumber, TooLong}
 use Rattle.hoa_tokens.specs.declared.fault.Layer.the-variants.{Bytes}
 use Rattle.hoa_tokens.specs.declared.token.Mark.{Mark}
 use Rattle.hoa_tokens.specs.declared.token.Token.{Token}
 use Rattle.hoa_tokens.specs.declared.token.Token.the-variants as case
 use Rattle.hoa_tokens.specs.declared.token.Placed.{Placed}
 use Rattle.hoa_tokens.specs.Bytes.{blank, value, plain}
+use Rattle.hoa_tokens.specs.Numbers.{longest-text}
 use Rattle.hoa_tokens.specs.Items.{Kind, span, Run, Item, Longest}
 
 -- a token as a reader sees it: by its bytes and not by where they lie in memory
@@ -45,6 +46,13 @@ found (Err f) = fault f
 -- a fault of the bytes at a place
 abbrev pub bytesFault : Refusal → ℕ → Fault
 bytesFault refusal place = record { refusal = refusal; place = place; layer = Bytes }
+
+-- a text is taken as it is, if it is not too long
+abbrev pub TextTaken : List ℕ → List ℕ → Type 0
+TextTaken bytes text = (text ≡ bytes) × (length bytes ≤ longest-text)
+
+abbrev pub TextTooLong : List ℕ → Fault → Type 0
+TextTooLong bytes f = (f ≡ bytesFault TooLong longest-text) × (longest-text < length bytes)
 
 -- what an item is found to be: a word with its colon, a number unless its digits are refused, a name without its quotes, a mark
 abbrev pub itemFound : Kind → List ℕ → ℕ → ℕ → Found

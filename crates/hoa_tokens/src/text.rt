@@ -1,11 +1,6 @@
 //! A text within the size limit.
-ghost use Prim.Native.Nat.{_<_, _≤_};
-ghost use mathlib.Core.Path.{_≡_};
-ghost use lib.ListN.{length};
 ghost use Rattle.std.specs.Results.{Cases};
-ghost use Rattle.hoa_tokens.specs.declared.fault.Refusal.the-variants.{TooLong};
-ghost use Rattle.hoa_tokens.specs.Numbers.{longest-text};
-ghost use Rattle.hoa_tokens.specs.Scanning.{bytesFault};
+ghost use Rattle.hoa_tokens.specs.Scanning.{TextTaken, TextTooLong};
 use crate::fault::Fault;
 use crate::fault::Layer;
 use crate::fault::Refusal;
@@ -22,7 +17,7 @@ pub struct Text<'a> {
 impl<'a> Text<'a> {
     /// The text of these bytes, or the fault of one above 61,440 bytes.
     pub fn new(bytes: &'a [u8]) -> Result<Text<'a>, Fault>
-        ensures { λ r. ⌜ Cases r (λ t. (now (t .bytes) ≡ now (bytes .entry)) × (length (now (bytes .entry)) ≤ longest-text)) (λ f. (f ≡ bytesFault TooLong longest-text) × (longest-text < length (now (bytes .entry)))) ⌝ }
+        ensures { λ r. ⌜ Cases r (λ t. TextTaken (now (bytes .entry)) (now (t .bytes))) (TextTooLong (now (bytes .entry))) ⌝ }
     {
         if bytes.len() > LONGEST_TEXT {
             return Err(Fault {

@@ -1,8 +1,10 @@
--- Promise. When parts cannot be put together, and the number of each refusal.
+-- Promise. When parts are put together and when they cannot be, and the number of each refusal.
 use mathlib.Core.Path.{_≡_}
 use mathlib.Core.Logic.{_⊎_}
 use Prim.Native.Nat.{ℕ, _*_, _<_, _≤_}
 use Rattle.omega.specs.Automata.{Meaning, mostStates, mostSignals}
+use Rattle.omega.specs.Words.{AcceptsBoth}
+use Rattle.omega.specs.Pairs.{pair}
 use Rattle.automaton.specs.declared.refusal.PartsRefusal.{PartsRefusal}
 use Rattle.automaton.specs.declared.refusal.PartsRefusal.the-variants.{SignalsDiffer, TooManyStates, NoSuchSignal}
 
@@ -17,6 +19,12 @@ pub record Fit (A B : Meaning) : Type 0 where
   pub signals : A .signals ≡ B .signals
   pub states : A .states * B .states * 2 ≤ mostStates
 
+-- M is the pair of two parts that fit
+pub record Paired (A B M : Meaning) : Type 0 where
+  pub fit : Fit A B
+  pub means : M ≡ pair A B
+  pub accepts : AcceptsBoth M A B
+
 -- two parts make no pair: their signals differ, or else the pair would have too many states
 abbrev pub Unfit : Meaning → Meaning → PartsRefusal → Type 0
 Unfit A B e = ((e ≡ SignalsDiffer) × (A .signals ≡ B .signals → ⊥)) ⊎ ((e ≡ TooManyStates) × (A .signals ≡ B .signals) × (mostStates < A .states * B .states * 2))
@@ -24,3 +32,11 @@ Unfit A B e = ((e ≡ SignalsDiffer) × (A .signals ≡ B .signals → ⊥)) ⊎
 -- signal i is one of p, and p is not too many
 abbrev pub Watchable : ℕ → ℕ → Type 0
 Watchable i p = (i < p) × (p ≤ mostSignals)
+
+-- an automaton watches signal i of p, as it was asked to
+abbrev pub Watches : ℕ → ℕ → ℕ → ℕ → Type 0
+Watches i p index count = (index ≡ i) × (count ≡ p) × Watchable i p
+
+-- there is no such signal to watch
+abbrev pub Unwatchable : ℕ → ℕ → PartsRefusal → Type 0
+Unwatchable i p e = (e ≡ NoSuchSignal) × (Watchable i p → ⊥)
