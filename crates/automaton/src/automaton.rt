@@ -1,5 +1,5 @@
 //! The five questions.
-ghost use Prim.Native.Nat.{ℕ, _≤_};
+ghost use Prim.Native.Nat.{_≤_};
 ghost use mathlib.Core.Path.{_≡_};
 ghost use denote.Ref.{now};
 ghost use Rattle.omega.specs.Automata.{Meaning, Sound, Lowest, mostStates, mostSignals};

@@ -1,13 +1,13 @@
 //! The pair of two automata, which accepts what both accept.
-ghost use Prim.Native.Nat.{ℕ, _+_, _*_, _/_, _^_, _<_, _≤_};
+ghost use Prim.Native.Nat.{_+_, _*_, _/_, _^_, _<_, _≤_};
 ghost use mathlib.Core.Path.{_≡_};
-ghost use mathlib.Core.Bool.{Bool, true, false, cond};
+ghost use mathlib.Core.Bool.{cond};
 ghost use lib.Dec.{eqb};
 ghost use denote.Ref.{now};
 ghost use Rattle.std.specs.declared.option.Option.the-variants.{Some};
 ghost use Rattle.std.specs.Options.{Cases as BySome};
 ghost use Rattle.std.specs.Results.{Cases};
-ghost use Rattle.omega.specs.Automata.{Meaning, Lowest, mostStates};
+ghost use Rattle.omega.specs.Automata.{Lowest, mostStates};
 ghost use Rattle.omega.specs.Pairs.{turned};
 ghost use Rattle.omega.specs.Cached.{usable, cached, place, NoneInRow};
 ghost use Rattle.omega.proofs.Caching.{cached-sound};

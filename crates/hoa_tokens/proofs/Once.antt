@@ -2,17 +2,16 @@
 use mathlib.Core.Path.{_≡_, refl, sym, ap, _∙_, subst}
 use mathlib.Core.Bool.{Bool, true, false, cond}
 use mathlib.Core.List.{List}
-use mathlib.Core.Logic.{_⊎_, inl, inr, ⊎-elim}
-use Prim.Native.Nat.{ℕ, _+_, _-_, _<_, _≤_}
+use mathlib.Core.Logic.{inl, inr, ⊎-elim}
+use Prim.Native.Nat.{ℕ, _-_, _<_, _≤_}
 use native.Mathlib.Omega.{arith}
 use lib.ListN.{length, getD}
 use Rattle.std.proofs.shelf.Lists.{getD-past}
 use Rattle.std.proofs.str.Laws.{order}
 use Rattle.hoa_tokens.specs.declared.class.Class.the-variants as class
-use Rattle.hoa_tokens.specs.declared.fault.Refusal.the-variants.{BadByte, BadNumber}
-use Rattle.hoa_tokens.specs.declared.token.Mark.{Mark}
-use Rattle.hoa_tokens.specs.Bytes.{blank, digit, member, quote, colon, sign, value, plain}
-use Rattle.hoa_tokens.specs.Items.{Each, Run, span, Kind, Item, Longest}
+use Rattle.hoa_tokens.specs.declared.fault.Refusal.the-variants.{BadNumber}
+use Rattle.hoa_tokens.specs.Bytes.{blank, digit, member, value, plain}
+use Rattle.hoa_tokens.specs.Items.{Run, span, Kind, Item, Longest}
 use Rattle.hoa_tokens.specs.Scanning.{Found, token, fault, number, bytesFault, itemFound, Stands, ended, item, nothing, Scanned, Ahead}
 use Rattle.hoa_tokens.proofs.FirstBytes.{never, some-sign, kind-at}
 use Rattle.hoa_tokens.proofs.Longest.{each-in-run}

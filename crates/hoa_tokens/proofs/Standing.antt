@@ -1,14 +1,14 @@
 -- What the scanner answers at a place is what stands there, kind by kind.
-use mathlib.Core.Path.{_≡_, refl, sym, ap, _∙_, subst}
+use mathlib.Core.Path.{_≡_, sym, _∙_, subst}
 use mathlib.Core.Bool.{Bool, true, false, cond}
 use mathlib.Core.List.{List}
-use Prim.Native.Nat.{ℕ, _+_, _-_, _<_, _≤_}
+use Prim.Native.Nat.{ℕ, _+_, _-_, _<_}
 use native.Mathlib.Omega.{arith}
 use lib.ListN.{length, getD, length-take, length-drop}
 use lib.Seq.{getD-take, getD-drop}
 use Rattle.hoa_tokens.specs.declared.fault.Refusal.the-variants.{BadByte, BadNumber}
 use Rattle.hoa_tokens.specs.Bytes.{digit, nameable, quote, value, plain}
-use Rattle.hoa_tokens.specs.Items.{Each, Run, span, Kind, Longest}
+use Rattle.hoa_tokens.specs.Items.{Each, Run, span, Kind}
 use Rattle.hoa_tokens.specs.Scanning.{Found, token, fault, number, name, bytesFault, itemFound, Stands}
 use Rattle.hoa_tokens.specs.Steps.{AllDigits, closes}
 use Rattle.hoa_tokens.proofs.Longest.{digits-longest, name-longest, no-name}
@@ -17,7 +17,7 @@ use Rattle.hoa_tokens.proofs.Longest.{digits-longest, name-longest, no-name}
 pub span-digits : (text : List ℕ) (from to : ℕ) → Each digit text from to → AllDigits (span text from to)
 span-digits text from to each i below =
     let inside : i < to - from = omega (arith, simp (length-take, length-drop) at below) in
-    subst (λ b. digit b ≡ true) (sym (getD-take (to - from) _ i 0 inside ∙ getD-drop from text i 0)) (each (from + i) (omega arith) (omega arith))
+    rw (getD-take, getD-drop) (each (from + i) (omega arith) (omega arith))
 
 module _ (text : List ℕ) (place next : ℕ) (first : digit (getD text place 0) ≡ true) (run : Run digit text place next) where
   stands : Stands text place (itemFound Kind.digits text place next)

@@ -1,7 +1,5 @@
 //! Classes of bytes.
 ghost use mathlib.Core.Path.{_≡_};
-ghost use mathlib.Core.Bool.{true};
-ghost use Prim.Native.Nat.{ℕ};
 ghost use Rattle.std.specs.Options.{Cases};
 ghost use Rattle.hoa_tokens.specs.Bytes.{letter, digit, member, sign, NoMark};
 use crate::token::Mark;

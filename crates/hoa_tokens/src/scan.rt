@@ -1,11 +1,11 @@
 //! The token at or behind a position of a text.
-ghost use Prim.Native.Nat.{ℕ, _+_, _<_, _≤_, min};
+ghost use Prim.Native.Nat.{_+_, _<_, _≤_, min};
 ghost use mathlib.Core.Path.{_≡_};
-ghost use mathlib.Core.Bool.{Bool, true, false, not};
+ghost use mathlib.Core.Bool.{true};
 ghost use lib.ListN.{length, getD};
 ghost use Rattle.std.specs.declared.result.Result.the-variants.{Ok};
-ghost use Rattle.hoa_tokens.specs.Bytes.{letter, digit, quote, member, sign, value, plain};
-ghost use Rattle.hoa_tokens.specs.Items.{Each, Run};
+ghost use Rattle.hoa_tokens.specs.Bytes.{letter, digit, quote, member, value, plain};
+ghost use Rattle.hoa_tokens.specs.Items.{Run};
 ghost use Rattle.hoa_tokens.specs.Scanning.{found, Stands, Scanned, Ahead, clipped};
 ghost use Rattle.hoa_tokens.specs.Steps.{AllDigits, WithColon, closes};
 use crate::class::Class;

@@ -1,7 +1,7 @@
 -- The automaton of a ring of stations, as a user of the library would write it: every letter leads on to the next station, the first is the start, and the last is good.
 use mathlib.Core.Bool.{Bool, _&&_, cond}
-use Prim.Native.Nat.{ℕ, _+_, _^_, _<_, _≤_}
-use lib.Dec.{T, eqb, ltb, ltb→lt}
+use Prim.Native.Nat.{ℕ, _+_, _^_, _≤_}
+use lib.Dec.{eqb, ltb, ltb→lt}
 use Rattle.omega.specs.Automata.{Meaning, Sound, mostStates, mostSignals}
 use Rattle.omega.proofs.Tests.{parts-pass}
 

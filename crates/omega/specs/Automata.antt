@@ -1,6 +1,6 @@
 -- Promise. What an automaton is, the limits that each keeps, and when two mean the same.
 use mathlib.Core.Path.{_≡_}
-use mathlib.Core.Bool.{Bool, true, false}
+use mathlib.Core.Bool.{Bool}
 use Prim.Native.Nat.{ℕ, _^_, _<_, _≤_}
 use lib.Dec.{T}
 use Rattle.std.specs.declared.option.Option.{Option}

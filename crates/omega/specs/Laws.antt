@@ -1,9 +1,8 @@
 -- Promise. The laws between words, lassos, rankings and pairs.
-use mathlib.Core.Path.{_≡_}
 use mathlib.Core.Bool.{Bool}
 use mathlib.Core.Logic.{_⊎_, _↔_}
-use Prim.Native.Nat.{ℕ, _^_, _<_, _≤_}
-use Rattle.omega.specs.Automata.{Meaning, Sound, Same}
+use Prim.Native.Nat.{ℕ}
+use Rattle.omega.specs.Automata.{Meaning, Sound}
 use Rattle.omega.specs.Words.{Word, Over, Often, Seldom, Accepted, AcceptsBoth, SomeWord}
 use Rattle.omega.specs.Lassos.{SomeLasso}
 use Rattle.omega.specs.Rankings.{Ranking, SomeLeast}

@@ -1,5 +1,5 @@
 -- Promise. The pair of two automata, which run side by side on one word and take turns in being waited for.
-use mathlib.Core.Bool.{Bool, true, false, not, _&&_, cond, Bool·beq}
+use mathlib.Core.Bool.{Bool, true, false, not, _&&_, Bool·beq}
 use Prim.Native.Nat.{ℕ, _+_, _*_, _/_, _%_}
 use lib.Dec.{eqb, ltb}
 use Rattle.omega.specs.Automata.{Meaning}

@@ -1,5 +1,5 @@
 -- Promise. The automaton of a table: a list of cells, whose cell s * n + t has bit a exactly for a step (s, a, t).
-use mathlib.Core.Bool.{Bool, _&&_}
+use mathlib.Core.Bool.{_&&_}
 use mathlib.Core.List.{List}
 use Prim.Native.Nat.{ℕ, _+_, _*_}
 use lib.Dec.{ltb}

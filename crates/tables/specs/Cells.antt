@@ -1,11 +1,10 @@
 -- Promise. What a table keeps, and what each addition to a draft changes.
 use mathlib.Core.Path.{_≡_}
-use mathlib.Core.Bool.{Bool, _&&_, _||_}
+use mathlib.Core.Bool.{_&&_, _||_}
 use mathlib.Core.List.{List}
-use Prim.Native.Nat.{ℕ, _+_, _*_, _^_, _<_, _≤_}
+use Prim.Native.Nat.{ℕ, _+_, _*_, _^_}
 use lib.Dec.{eqb, ltb}
 use lib.ListN.{length, getD}
-use Rattle.omega.specs.Automata.{Meaning, mostSignals}
 use Rattle.omega.specs.Signals.{bit}
 
 -- the most states of a table

@@ -1,7 +1,7 @@
 //! A table in memory of its own, to which starts, good states and steps are added.
 ghost use Prim.Native.Nat.{ℕ, _-_, _*_, _^_, _<_, _≤_};
 ghost use mathlib.Core.Path.{_≡_};
-ghost use lib.ListN.{length, getD, replicate};
+ghost use lib.ListN.{getD, replicate};
 ghost use Rattle.std.specs.Options.{Cases};
 ghost use Rattle.omega.specs.Automata.{mostSignals};
 ghost use Rattle.tables.specs.Cells.{mostTableStates, tableCells, StateAdded, StepsAdded};

@@ -1,9 +1,5 @@
 use mathlib.Core.Path.{sym}
-use native.Mathlib.Omega.{arith}
-use borrow.Author.Tests.{leb-true}
-use Rattle.std.proofs.shelf.Ways.{tells}
 use Rattle.hoa_tokens.specs.Items.{span}
-use Rattle.hoa_tokens.specs.Bytes.{value, plain}
 use Rattle.hoa_tokens.proofs.Standing.{span-digits, number-stands, number-refused}
 use Rattle.hoa_tokens.proofs.Values.{plain-value}
 use Rattle.hoa_tokens.proofs.scan.number_at.Needs as need

@@ -1,5 +1,5 @@
 use native.Mathlib.Omega.{arith}
-use mathlib.Core.Logic.{inl, inr}
+use mathlib.Core.Logic.{inr}
 use mathlib.Core.Path.{refl}
 use Rattle.std.proofs.shelf.Lists.{getD-past}
 use Rattle.hoa_tokens.proofs.scan.past_colon.Needs as need

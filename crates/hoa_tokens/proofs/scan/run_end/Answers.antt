@@ -1,8 +1,7 @@
-use borrow.Author.Needs.{needs}
 use mathlib.Core.Path.{_≡_, ap, _∙_, refl}
 use mathlib.Core.Bool.{false}
 use lib.ListN.{length}
-use Prim.Native.Nat.{ℕ, _≤_}
+use Prim.Native.Nat.{_≤_}
 use Rattle.std.proofs.shelf.Lists.{getD-past}
 use native.Mathlib.Omega.{arith}
 use Rattle.hoa_tokens.specs.declared.class.Class.{Class}

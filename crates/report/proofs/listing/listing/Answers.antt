@@ -1,7 +1,6 @@
-use mathlib.Core.Path.{_≡_, sym, ap, _∙_}
+use mathlib.Core.Path.{sym, _∙_}
 use mathlib.Core.List.{[], _∷_, _++_, append-nil}
-use Rattle.std.specs.declared.result.Result.the-variants.{Ok, Err}
-use Rattle.std.specs.Of.Vec.{vec-items}
+use Rattle.std.specs.declared.result.Result.the-variants.{Ok}
 use Rattle.hoa_tokens.specs.Scanning.{fault, found, Scanned, Ahead}
 use Rattle.hoa_tokens.proofs.Cutting.{grown-more, grown-end, grown-fault, ahead-of, unclipped}
 use Rattle.report.specs.Lines.{foundLines}

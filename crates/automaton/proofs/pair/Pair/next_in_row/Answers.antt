@@ -1,4 +1,3 @@
-use mathlib.Core.Path.{sym}
 use Rattle.omega.proofs.Places.{place-in-row}
 use Rattle.automaton.proofs.pair.Pair.next_in_row.Needs as need
 
