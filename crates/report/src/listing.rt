@@ -24,7 +24,7 @@ fn line(heap: Global, head: &str, tail: &[u8]) -> Result<Vec<u8>, AllocError>
 }
 
 /// The line of a token: its place, its kind and its bytes.
-pub fn token_line(heap: Global, t: Placed<'_>) -> Result<Vec<u8>, AllocError>
+fn token_line(heap: Global, t: Placed<'_>) -> Result<Vec<u8>, AllocError>
     ensures { λ r. ⌜ made r (λ v. vec-items v ≡ foundLine (found (Ok (t .entry)))) ⌝ }
 {
     let place = t.place;
@@ -54,7 +54,7 @@ pub fn token_line(heap: Global, t: Placed<'_>) -> Result<Vec<u8>, AllocError>
 }
 
 /// The lines of a text's tokens, up to its end or its first fault.
-pub fn listing(heap: Global, text: Text<'_>) -> Result<Vec<u8>, AllocError>
+pub(crate) fn listing(heap: Global, text: Text<'_>) -> Result<Vec<u8>, AllocError>
     ensures { λ r. ⌜ made r (λ v. Listing (now (text .entry .bytes)) (vec-items v)) ⌝ }
 {
     let mut lines = Vec::new(heap);
