@@ -4,3 +4,4 @@ pub mod Values
 pub mod Standing
 pub mod Once
 pub mod Cutting
+pub mod Existing

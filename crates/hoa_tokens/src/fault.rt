@@ -9,6 +9,16 @@ pub enum Refusal {
     BadByte = 11,
     /// A number above 9,999, or one with a needless leading 0.
     BadNumber = 12,
+    /// A token that is not allowed there, or the text's end.
+    Unexpected = 13,
+    /// More than 64 states or 4 signals.
+    TooMany = 14,
+    /// A state or a signal that there is not.
+    OutOfRange = 15,
+    /// A state described twice or a name given twice.
+    Repeated = 16,
+    /// A 17th `(` or `!` open at once.
+    TooDeep = 17,
     /// A text above 61,440 bytes.
     TooLong = 18,
     /// A file that cannot be read.

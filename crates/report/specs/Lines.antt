@@ -13,7 +13,7 @@ use Rattle.std.specs.declared.result.Result.{Result}
 use Rattle.std.specs.declared.result.Result.the-variants.{Ok, Err}
 use Rattle.hoa_tokens.specs.declared.fault.Fault.{Fault}
 use Rattle.hoa_tokens.specs.declared.fault.Refusal.{Refusal}
-use Rattle.hoa_tokens.specs.declared.fault.Refusal.the-variants.{BadByte, BadNumber, TooLong, Unreadable}
+use Rattle.hoa_tokens.specs.declared.fault.Refusal.the-variants.{BadByte, BadNumber, Unexpected, TooMany, OutOfRange, Repeated, TooDeep, TooLong, Unreadable}
 use Rattle.hoa_tokens.specs.Bytes.{sign}
 use Rattle.hoa_tokens.specs.Cuts.{Cut, Counted}
 use Rattle.hoa_tokens.specs.Numbers.{refusalNumber, layerNumber, longest-text}
@@ -56,6 +56,11 @@ countLine source n = sourceName source ++ (codes " " ++ (decimal n ++ codes " to
 abbrev pub complaint : Refusal → List ℕ
 complaint BadByte = codes "begins no token"
 complaint BadNumber = codes "begins a number above 9999 or with a needless 0"
+complaint Unexpected = codes "begins what is not allowed there"
+complaint TooMany = codes "begins a number that is too great"
+complaint OutOfRange = codes "begins what there is not"
+complaint Repeated = codes "begins what was given before"
+complaint TooDeep = codes "is nested too deep"
 complaint TooLong = codes "is one too many"
 complaint Unreadable = codes "cannot be read"
 

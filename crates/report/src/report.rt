@@ -30,6 +30,11 @@ fn complaint_of(refusal: Refusal) -> &'static str
     match refusal {
         Refusal::BadByte => "begins no token",
         Refusal::BadNumber => "begins a number above 9999 or with a needless 0",
+        Refusal::Unexpected => "begins what is not allowed there",
+        Refusal::TooMany => "begins a number that is too great",
+        Refusal::OutOfRange => "begins what there is not",
+        Refusal::Repeated => "begins what was given before",
+        Refusal::TooDeep => "is nested too deep",
         Refusal::TooLong => "is one too many",
         Refusal::Unreadable => "cannot be read",
     }

@@ -1,0 +1,12 @@
+pub mod Tests
+pub mod Written
+pub mod LabelSteps
+pub mod Sound
+pub mod Runs
+pub mod Live
+pub mod Complete
+pub mod Reached
+pub mod Finds
+pub mod Outcomes
+pub mod Laws
+pub mod Stepping
