@@ -12,11 +12,7 @@ use Rattle.hoa_grammar.specs.Labels.{on}
 use Rattle.hoa_labels.specs.Letters.{Means}
 use Rattle.hoa_labels.specs.Sets.{setOf}
 
--- the bit of a letter in a set
-abbrev bit : ℕ → ℕ → ℕ
-bit a x = x / 2 ^ a % 2
-
--- bits as tests, with more above the bit
+-- tests of two bits, with more bits above the one that is made of them
 module _ (more u v : ℕ) (u-bit : u < 2) (v-bit : v < 2) where
   both : eqb ((more * 2 + min u v) % 2) 1 ≡ (eqb u 1 && eqb v 1)
   both = grind (arith, tells)
@@ -27,6 +23,7 @@ module _ (more u v : ℕ) (u-bit : u < 2) (v-bit : v < 2) where
   other : eqb v 1 ≡ true → eqb ((more * 2 + differ u v) % 2) 1 ≡ not (eqb u 1)
   other all = grind (arith, tells)
 
+-- a letter in sets that are made of two others
 module _ (a x y : ℕ) where
   on-and : on a (bitAnd x y) ≡ (on a x && on a y)
   on-and = ap (λ n. eqb (n % 2) 1) (and-shr x y a ∙ and-step (x / 2 ^ a) (y / 2 ^ a)) ∙ both (bitAnd (x / 2 ^ a / 2) (y / 2 ^ a / 2)) (x / 2 ^ a % 2) (y / 2 ^ a % 2) (omega arith) (omega arith)

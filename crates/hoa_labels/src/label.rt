@@ -146,7 +146,7 @@ fn label<'a>(
     Ok(Part { letters, head })
 }
 
-/// Factors joined by `&`.
+/// Factors joined by `&`, from the token in hand on.
 fn term<'a>(
     text: Text<'a>,
     head: Placed<'a>,

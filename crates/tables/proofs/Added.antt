@@ -1,9 +1,9 @@
--- What a draft begins with, and what each addition changes: a state added to a set of states, and letters added to one cell.
+-- What a draft begins with, and what each addition changes: a state or a set of them added to a set of states, and letters added to one cell.
 use mathlib.Core.Path.{_≡_, refl, sym}
-use mathlib.Core.Bool.{_&&_, _||_, and-true, or-false}
+use mathlib.Core.Bool.{_&&_, _||_, and-true, and-comm, or-false}
 use mathlib.Core.List.{List}
 use mathlib.Core.Logic.{⊎-elim}
-use Prim.Native.Nat.{ℕ, zero, suc, _+_, _-_, _*_, _%_, _^_, _<_, _≤_}
+use Prim.Native.Nat.{ℕ, zero, suc, _+_, _-_, _*_, _/_, _%_, _^_, _<_, _≤_}
 use native.Mathlib.Omega.{arith}
 use lib.Arith.{digits-lt}
 use lib.Bits.{bitAnd, bitOr}
@@ -13,8 +13,8 @@ use Rattle.std.proofs.shelf.Bits.{one-shl, or-lt, pow-pos, pow-below, and-mask,
 use Rattle.std.proofs.shelf.Lists.{getD-set-same, getD-set-other}
 use Rattle.std.proofs.shelf.Tests.{cases-eq, lt-ltb, eq-eqb, ne-eqb}
 use Rattle.omega.specs.Signals.{bit}
-use Rattle.tables.specs.Cells.{StateAdded, StepsAdded}
-use Rattle.tables.proofs.Bits.{bit-or, bit-power, bit-low}
+use Rattle.tables.specs.Cells.{StateAdded, StatesAdded, StepsAdded}
+use Rattle.tables.proofs.Bits.{bit-or, bit-power, bit-low, low-ones}
 
 -- the set of states with s
 pub state-added : (n s old : ℕ) → n ≤ 64 → s < n → StateAdded n s old (bitOr old ((1 * 2 ^ s) % 2 ^ 64))
@@ -26,6 +26,19 @@ state-added n s old few inside k =
 pub state-added-in : (n s old : ℕ) → n ≤ 64 → s < n → old < 2 ^ n → bitOr old ((1 * 2 ^ s) % 2 ^ 64) < 2 ^ n
 state-added-in n s old few inside small =
     rw (one-shl s 64 (omega arith)) (or-lt n old (2 ^ s) small (pow-below s n inside))
+
+-- the states below n of a set are what a shifted mask leaves of it
+module _ (n set old : ℕ) (few : n ≤ 64) where
+  low-states : bitAnd set (18446744073709551615 / 2 ^ (64 - n)) ≡ set % 2 ^ n
+  low-states = rw (low-ones n few) (and-mask set n)
+
+  -- the set of states with those of another set
+  pub states-added : StatesAdded n set old (bitOr old (bitAnd set (18446744073709551615 / 2 ^ (64 - n))))
+  states-added k = rw (low-states, bit-or k old (set % 2 ^ n), bit-low k n set, and-comm (ltb k n) (bit k set))
+
+  -- it is still a set of states below n
+  pub states-added-in : old < 2 ^ n → bitOr old (bitAnd set (18446744073709551615 / 2 ^ (64 - n))) < 2 ^ n
+  states-added-in small = rw low-states (or-lt n old (set % 2 ^ n) small (mod-below set (2 ^ n) (pow-pos n)))
 
 -- a list of zeros has a zero at every place, also past its end
 pub zero-everywhere : (n k : ℕ) → getD {A = ℕ} (replicate n 0) k 0 ≡ 0

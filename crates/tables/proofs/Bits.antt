@@ -1,14 +1,14 @@
--- Bits of numbers: of a union, of a power of two, of the low digits, and above the highest one.
+-- Bits of numbers: of a union, of a power of two, of the low digits, and above the highest one. And masks and powers of two by shifts.
 use mathlib.Core.Path.{_≡_, refl, sym, ap, _∙_}
 use mathlib.Core.Bool.{false, _&&_, _||_}
 use mathlib.Core.Logic.{⊎-elim}
 use Prim.Native.Nat.{ℕ, zero, suc, _+_, _-_, _*_, _/_, _%_, _^_, _<_, _≤_}
-use native.Mathlib.Nat.{div-self}
+use native.Mathlib.Nat.{div-self, add-mul}
 use native.Mathlib.Omega.{arith}
 use lib.Bits.{bitOr}
 use lib.Dec.{eqb, ltb}
 use lib.Pow.{pow-mono, mod-mod-pow}
-use Rattle.std.proofs.shelf.Bits.{pow-pos, pow-add, or-shr, or-mod, field-of, shl-shr, div-below, mod-below, pow-below, one-shl}
+use Rattle.std.proofs.shelf.Bits.{pow-pos, pow-add, or-shr, or-mod, field-of, shl-shr, shr-high, div-below, mod-below, pow-below, one-shl}
 use Rattle.std.proofs.shelf.Tests.{cases-lt, cases-order, lt-ltb, le-ltb, eq-eqb, ne-eqb}
 use Rattle.omega.specs.Signals.{bit}
 
@@ -67,6 +67,17 @@ bit-low k n x =
     rw (lt-ltb k n below, e, field-of x (j + 1) k) (ap (λ (z : ℕ). eqb z 1) (mod-mod-pow (x / 2 ^ k) j 1)))
     (λ past. rw (le-ltb k n past) (bit-past k n (x % 2 ^ n) (mod-below x (2 ^ n) (pow-pos n)) past))
     (cases-lt k n)
+
+-- the n lowest of 64 ones, by a shift of all of them
+pub low-ones : (n : ℕ) → n ≤ 64 → 18446744073709551615 / 2 ^ (64 - n) ≡ 2 ^ n - 1
+low-ones n few =
+    let m : ℕ = 64 - n in
+    let split : n + m ≡ 64 = omega arith in
+    let whole : 2 ^ 64 ≡ 2 ^ n * 2 ^ m = ap (λ (z : ℕ). 2 ^ z) (sym split) ∙ pow-add 2 n m in
+    let one-less : 2 ^ n ≡ (2 ^ n - 1) + 1 = omega (arith, pow-pos n) in
+    let product : 2 ^ n * 2 ^ m ≡ (2 ^ n - 1) * 2 ^ m + 1 * 2 ^ m = ap (λ (z : ℕ). z * 2 ^ m) one-less ∙ add-mul (2 ^ n - 1) 1 (2 ^ m) in
+    let ones : 18446744073709551615 ≡ (2 ^ n - 1) * 2 ^ m + (2 ^ m - 1) = omega (arith, pow-pos m) in
+    ap (λ (z : ℕ). z / 2 ^ m) ones ∙ shr-high (2 ^ n - 1) m (2 ^ m - 1) (omega (arith, pow-pos m))
 
 -- 2 ^ p by a shift of 32 bits, for at most 16 letters
 pub letter-count : (p : ℕ) → p ≤ 4 → ((1 * 2 ^ p) % 2 ^ 32 ≡ 2 ^ p) × (2 ^ p ≤ 16)

@@ -1,10 +1,10 @@
 //! A table in memory of its own, to which starts, good states and steps are added.
 ghost use Prim.Native.Nat.{ℕ, _-_, _*_, _^_, _<_, _≤_};
 ghost use mathlib.Core.Path.{_≡_};
-ghost use lib.ListN.{getD, replicate};
+ghost use lib.ListN.{length, getD, replicate};
 ghost use Rattle.std.specs.Options.{Cases};
 ghost use Rattle.omega.specs.Automata.{mostSignals};
-ghost use Rattle.tables.specs.Cells.{mostTableStates, tableCells, StateAdded, StepsAdded};
+ghost use Rattle.tables.specs.Cells.{mostTableStates, tableCells, StateAdded, StatesAdded, StepsAdded};
 
 /// The most states of a table.
 const MOST_TABLE_STATES: u32 = 64;
@@ -56,6 +56,14 @@ impl Draft {
         self.starts = with_state(self.starts, s, self.states);
     }
 
+    /// Makes the states of a set starts; bits that are no state count for nothing.
+    pub fn add_starts(&mut self, set: u64)
+        ensures starts { λ _. ⌜ StatesAdded (now (self .entry) .states) set (now (self .entry) .starts) (now (self .exit) .starts) ⌝ }
+        ensures same { λ _. ⌜ (now (self .exit) .states ≡ now (self .entry) .states) × (now (self .exit) .signals ≡ now (self .entry) .signals) × (now (self .exit) .goods ≡ now (self .entry) .goods) × (now (self .exit) .cells ≡ now (self .entry) .cells) ⌝ }
+    {
+        self.starts = with_states(self.starts, set, self.states);
+    }
+
     /// Makes `s` good, if it is a state.
     pub fn add_good(&mut self, s: u32)
         ensures good { λ _. ⌜ StateAdded (now (self .entry) .states) s (now (self .entry) .goods) (now (self .exit) .goods) ⌝ }
@@ -88,6 +96,19 @@ fn with_state(set: u64, s: u32, states: u32) -> u64
         return set;
     }
     set | 1 << s
+}
+
+/// A set of some states, with those of them that are in `more`.
+fn with_states(set: u64, more: u64, states: u32) -> u64
+    requires few { ⌜ states ≤ mostTableStates ⌝ }
+    requires within { ⌜ set < 2 ^ states ⌝ }
+    ensures added { λ r. ⌜ StatesAdded states more set r ⌝ }
+    ensures within { λ r. ⌜ r < 2 ^ states ⌝ }
+{
+    if states == 0 {
+        return set;
+    }
+    set | more & (u64::MAX >> (64 - states))
 }
 
 /// The set of all letters over some signals.

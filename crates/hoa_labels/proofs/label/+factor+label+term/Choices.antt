@@ -1,10 +1,10 @@
--- A part inside a factor has less room, and a loop ends since each turn reads on; up to its turn a loop has read what its function promises, but for the token behind it.
+-- Why the calls and the loops end, and what the loops keep: a term or a label so far, up to the token in hand.
 use Prim.Native.Nat.{_+_, _-_, _*_}
 use lib.ListN.{length}
 use Rattle.hoa_labels.specs.Parts.{TermBegun, LabelBegun}
 use Rattle.hoa_labels.proofs.label.+factor+label+term.Given as given
 
--- a part has less room inside than the factor around it, or is tried before it
+-- inside a `(` or `!` there is less room, and elsewhere a label calls terms, and a term factors
 abbrev pub μ-factor : given.MeasureT-factor
 μ-factor l = 3 * l .room
 
@@ -14,6 +14,7 @@ abbrev pub μ-term : given.MeasureT-term
 abbrev pub μ-label : given.MeasureT-label
 μ-label l = 3 * l .room + 2
 
+-- each turn reads on
 abbrev pub Inv-label-loop-signals : given.InvT-label-loop-signals
 Inv-label-loop-signals l = LabelBegun (l .text .bytes .now) (l .head-2) (l .signals .count) (l .room) (record { letters = l .letters; head = l .head })
 
