@@ -204,7 +204,7 @@ fn read_end<'a>(text: Text<'a>, head: Placed<'a>) -> Result<(), Fault>
 }
 
 /// The table that a text means, as a draft, or the text's first fault.
-pub fn read_draft(text: Text<'_>) -> Result<Draft, Fault>
+pub(crate) fn read_draft(text: Text<'_>) -> Result<Draft, Fault>
     ensures { λ r. ⌜ Cases r (λ draft. (d : Document) × DocumentRead (now (text .entry .bytes)) d × Drafted (d .header) (d .blocks) draft) (Refused (now (text .entry .bytes))) ⌝ }
 {
     let Numeral {

@@ -25,13 +25,13 @@ use hoa_tokens::Token;
 
 /// A number of the text, and the token behind it.
 #[derive(Clone, Copy)]
-pub struct Numeral<'a> {
+pub(crate) struct Numeral<'a> {
     pub value: u32,
     pub head: Placed<'a>,
 }
 
 /// The fault of a token that is not allowed where it stands.
-pub fn unexpected(place: usize) -> Fault
+pub(crate) fn unexpected(place: usize) -> Fault
     ensures { λ r. ⌜ r ≡ faultAt Unexpected place ⌝ }
 {
     Fault {
@@ -42,7 +42,7 @@ pub fn unexpected(place: usize) -> Fault
 }
 
 /// A fault of the meaning.
-pub fn broken(refusal: Refusal, place: usize) -> Fault
+pub(crate) fn broken(refusal: Refusal, place: usize) -> Fault
     ensures { λ r. ⌜ (r .refusal ≡ refusal) × (r .place ≡ place) × (r .layer ≡ Meaning) ⌝ }
 {
     Fault {
@@ -53,7 +53,7 @@ pub fn broken(refusal: Refusal, place: usize) -> Fault
 }
 
 /// Whether the token in hand is this word.
-pub fn is_word(head: &Placed<'_>, word: &[u8]) -> bool
+pub(crate) fn is_word(head: &Placed<'_>, word: &[u8]) -> bool
     ensures is { λ r. ⌜ (r ≡ true → lexeme (now (head .entry) .token) ≡ wordOf (now (word .entry))) ⌝ }
     ensures other { λ r. ⌜ (r ≡ false → lexeme (now (head .entry) .token) ≡ wordOf (now (word .entry)) → ⊥) ⌝ }
 {
@@ -64,7 +64,7 @@ pub fn is_word(head: &Placed<'_>, word: &[u8]) -> bool
 }
 
 /// Whether the token in hand is this mark.
-pub fn is_mark(head: &Placed<'_>, mark: Mark) -> bool
+pub(crate) fn is_mark(head: &Placed<'_>, mark: Mark) -> bool
     ensures is { λ r. ⌜ (r ≡ true → lexeme (now (head .entry) .token) ≡ markOf mark) ⌝ }
     ensures other { λ r. ⌜ (r ≡ false → lexeme (now (head .entry) .token) ≡ markOf mark → ⊥) ⌝ }
 {
@@ -75,7 +75,11 @@ pub fn is_mark(head: &Placed<'_>, mark: Mark) -> bool
 }
 
 /// The token behind a word that has to be in hand.
-pub fn expect_word<'a>(text: Text<'a>, head: Placed<'a>, word: &[u8]) -> Result<Placed<'a>, Fault>
+pub(crate) fn expect_word<'a>(
+    text: Text<'a>,
+    head: Placed<'a>,
+    word: &[u8],
+) -> Result<Placed<'a>, Fault>
     ensures { λ r. ⌜ Expected (now (text .entry .bytes)) (head .entry) (wordOf (now (word .entry))) r ⌝ }
 {
     if !is_word(&head, word) {
@@ -85,7 +89,11 @@ pub fn expect_word<'a>(text: Text<'a>, head: Placed<'a>, word: &[u8]) -> Result<
 }
 
 /// The token behind a mark that has to be in hand.
-pub fn expect_mark<'a>(text: Text<'a>, head: Placed<'a>, mark: Mark) -> Result<Placed<'a>, Fault>
+pub(crate) fn expect_mark<'a>(
+    text: Text<'a>,
+    head: Placed<'a>,
+    mark: Mark,
+) -> Result<Placed<'a>, Fault>
     ensures { λ r. ⌜ Expected (now (text .entry .bytes)) (head .entry) (markOf mark) r ⌝ }
 {
     if !is_mark(&head, mark) {
@@ -107,7 +115,7 @@ fn expect_token<'a>(text: Text<'a>, head: Placed<'a>, token: Token<'_>) -> Resul
 }
 
 /// The token behind those that are due, one behind the other.
-pub fn expect_all<'a>(
+pub(crate) fn expect_all<'a>(
     text: Text<'a>,
     head: Placed<'a>,
     tokens: &[Token<'_>],
@@ -122,7 +130,7 @@ pub fn expect_all<'a>(
 }
 
 /// The number that has to be in hand.
-pub fn number(head: &Placed<'_>) -> Result<u32, Fault>
+pub(crate) fn number(head: &Placed<'_>) -> Result<u32, Fault>
     ensures { λ r. ⌜ Cases r (λ n. lexeme (now (head .entry) .token) ≡ numberOf n) (λ f. ((n : ℕ) → lexeme (now (head .entry) .token) ≡ numberOf n → ⊥) × (f ≡ faultAt Unexpected (now (head .entry) .place))) ⌝ }
 {
     if let Token::Number(n) = head.token {
@@ -132,7 +140,11 @@ pub fn number(head: &Placed<'_>) -> Result<u32, Fault>
 }
 
 /// The token behind a number that has to be in hand, and to be this one.
-pub fn expect_number<'a>(text: Text<'a>, head: Placed<'a>, n: u32) -> Result<Placed<'a>, Fault>
+pub(crate) fn expect_number<'a>(
+    text: Text<'a>,
+    head: Placed<'a>,
+    n: u32,
+) -> Result<Placed<'a>, Fault>
     ensures { λ r. ⌜ Expected (now (text .entry .bytes)) (head .entry) (numberOf n) r ⌝ }
 {
     if number(&head)? != n {
@@ -142,7 +154,7 @@ pub fn expect_number<'a>(text: Text<'a>, head: Placed<'a>, n: u32) -> Result<Pla
 }
 
 /// The state that has to be in hand, below `states`, and the token behind it.
-pub fn state<'a>(text: Text<'a>, head: Placed<'a>, states: u32) -> Result<Numeral<'a>, Fault>
+pub(crate) fn state<'a>(text: Text<'a>, head: Placed<'a>, states: u32) -> Result<Numeral<'a>, Fault>
     ensures read { λ r. ⌜ NumberRead (now (text .entry .bytes)) (head .entry) (stateLimit states) r ⌝ }
     ensures below { λ r. ⌜ Cases r (λ x. x .value < states) (λ _. Unit {0}) ⌝ }
     ensures here { λ r. ⌜ Cases r (λ x. lexeme (head .entry .token) ≡ numberOf (x .value)) (λ _. Unit {0}) ⌝ }
@@ -160,7 +172,7 @@ pub fn state<'a>(text: Text<'a>, head: Placed<'a>, states: u32) -> Result<Numera
 }
 
 /// The count that has to be in hand, at most `most`, and the token behind it.
-pub fn count<'a>(text: Text<'a>, head: Placed<'a>, most: u32) -> Result<Numeral<'a>, Fault>
+pub(crate) fn count<'a>(text: Text<'a>, head: Placed<'a>, most: u32) -> Result<Numeral<'a>, Fault>
     ensures read { λ r. ⌜ NumberRead (now (text .entry .bytes)) (head .entry) (λ n. breaksIf (ltb most n) TooMany kept) r ⌝ }
     ensures below { λ r. ⌜ Cases r (λ x. x .value ≤ most) (λ _. Unit {0}) ⌝ }
 {

@@ -29,9 +29,9 @@ use hoa_tokens::Text;
 use hoa_tokens::Token;
 
 /// The most states and signals of a text.
-pub const MOST_STATES: u32 = 64;
+pub(crate) const MOST_STATES: u32 = 64;
 
-pub const MOST_SIGNALS: u32 = 4;
+pub(crate) const MOST_SIGNALS: u32 = 4;
 
 /// `1 Inf(0) --BODY--`.
 const INFINITELY_OFTEN: [Token<'static>; 6] = [
@@ -45,20 +45,13 @@ const INFINITELY_OFTEN: [Token<'static>; 6] = [
 
 /// A set of states, and the token behind it.
 #[derive(Clone, Copy)]
-pub struct StateSet<'a> {
+pub(crate) struct StateSet<'a> {
     pub states: u64,
     pub head: Placed<'a>,
 }
 
-/// The place of a name in its text.
-#[derive(Clone, Copy)]
-pub struct Span {
-    pub from: usize,
-    pub to: usize,
-}
-
 /// The number of states, from the text's first token on.
-pub fn read_states<'a>(text: Text<'a>) -> Result<Numeral<'a>, Fault>
+pub(crate) fn read_states<'a>(text: Text<'a>) -> Result<Numeral<'a>, Fault>
     ensures { λ r. ⌜ Cases r (λ x. (x .value ≤ mostStates) × Reached (now (text .entry .bytes)) (at (startsSlot (x .value) none)) (x .head)) (Refused (now (text .entry .bytes))) ⌝ }
 {
     let head = text.scan(0)?;
@@ -75,7 +68,11 @@ pub fn read_states<'a>(text: Text<'a>) -> Result<Numeral<'a>, Fault>
 }
 
 /// The starts, each behind a `Start:`.
-pub fn read_starts<'a>(text: Text<'a>, head: Placed<'a>, states: u32) -> Result<StateSet<'a>, Fault>
+pub(crate) fn read_starts<'a>(
+    text: Text<'a>,
+    head: Placed<'a>,
+    states: u32,
+) -> Result<StateSet<'a>, Fault>
     requires few { ⌜ states ≤ mostStates ⌝ }
     requires reached { ⌜ Reached (now (text .bytes)) (at (startsSlot states none)) head ⌝ }
     ensures { λ r. ⌜ Cases r (λ x. (row : Row ℕ) × Reached (now (text .entry .bytes)) (at (startsSlot states row)) (x .head) × InRow (x .states) row × (x .states < 2 ^ states) × (lexeme (x .head .token) ≡ word (codes "Start:") → ⊥)) (Refused (now (text .entry .bytes))) ⌝ }
@@ -95,7 +92,7 @@ pub fn read_starts<'a>(text: Text<'a>, head: Placed<'a>, states: u32) -> Result<
 }
 
 /// The number of signals behind `AP:`.
-pub fn read_signals<'a>(text: Text<'a>, head: Placed<'a>) -> Result<Numeral<'a>, Fault>
+pub(crate) fn read_signals<'a>(text: Text<'a>, head: Placed<'a>) -> Result<Numeral<'a>, Fault>
     requires { ⌜ (lexeme (head .token) ≡ word (codes "Start:") → ⊥) ⌝ }
     ensures { λ r. ⌜ ((n : ℕ) (row : Row ℕ) → Reached (now (text .entry .bytes)) (at (startsSlot n row)) (head .entry) → Cases r (λ x. (x .value ≤ mostSignals) × Reached (now (text .entry .bytes)) (at (namesSlot n row none (x .value))) (x .head)) (Refused (now (text .entry .bytes)))) ⌝ }
 {
@@ -104,7 +101,7 @@ pub fn read_signals<'a>(text: Text<'a>, head: Placed<'a>) -> Result<Numeral<'a>,
 }
 
 /// `acc-name: Buchi`, if it is there, and `Acceptance: 1 Inf(0) --BODY--`.
-pub fn read_acceptance<'a>(text: Text<'a>, head: Placed<'a>) -> Result<Placed<'a>, Fault>
+pub(crate) fn read_acceptance<'a>(text: Text<'a>, head: Placed<'a>) -> Result<Placed<'a>, Fault>
     ensures { λ r. ⌜ ((n : ℕ) (row : Row ℕ) (names : Row (List ℕ)) → Reached (now (text .entry .bytes)) (at (namesSlot n row names 0)) (head .entry) → Cases r (λ h. (told : Bool) × Reached (now (text .entry .bytes)) (at (blocksSlot (headerOf n row names told) none)) h) (Refused (now (text .entry .bytes)))) ⌝ }
 {
     if is_word(&head, b"acc-name:") {
@@ -137,7 +134,11 @@ fn is_repeated(names: &[&[u8]; 4], count: u32, name: &[u8]) -> bool
 }
 
 /// So many names, none of them twice.
-pub fn read_names<'a>(text: Text<'a>, head: Placed<'a>, signals: u32) -> Result<Placed<'a>, Fault>
+pub(crate) fn read_names<'a>(
+    text: Text<'a>,
+    head: Placed<'a>,
+    signals: u32,
+) -> Result<Placed<'a>, Fault>
     requires { ⌜ signals ≤ mostSignals ⌝ }
     ensures { λ r. ⌜ ((n : ℕ) (row : Row ℕ) → Reached (now (text .entry .bytes)) (at (namesSlot n row none signals)) (head .entry) → Cases r (λ h. (names : Row (List ℕ)) × (size names ≡ signals) × Reached (now (text .entry .bytes)) (at (namesSlot n row names 0)) h) (Refused (now (text .entry .bytes)))) ⌝ }
 {
