@@ -1,4 +1,6 @@
 //! How many states, signals, starts, good states and steps an automaton has.
+#![tactic(auto)]
+
 mod census;
 mod counting;
 

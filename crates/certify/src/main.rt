@@ -1,4 +1,6 @@
 //! Reads `sheet.hoa` and `rule.hoa` from the working directory and says what it finds in them.
+#![tactic(auto)]
+
 use hoa_tokens::LONGEST_TEXT;
 use report::{Source, report_file};
 use std::io::{Read, Write};

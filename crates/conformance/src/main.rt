@@ -1,4 +1,6 @@
 //! Reads the cases of a table from standard input, and prints what the reader answers to each, on a line of its own.
+#![tactic(auto)]
+
 mod answer;
 mod automata;
 mod case;

@@ -1,4 +1,6 @@
 //! Reads `sheet.hoa` and `rule.hoa` from the working directory and says what they come to.
+#![tactic(auto)]
+
 use hoa_tokens::LONGEST_TEXT;
 use outcomes::{decide, outcome_lines};
 use std::io::{Read, Write};

@@ -1,4 +1,6 @@
 //! The search for a lasso of an automaton.
+#![tactic(auto)]
+
 mod breadth;
 mod returning;
 mod shortest;

@@ -1,4 +1,6 @@
 //! Evidence: strips of words that tell a lasso or a ranking, and the call that rechecks one for any automaton.
+#![tactic(auto)]
+
 mod lasso;
 mod ranking;
 mod rechecking;

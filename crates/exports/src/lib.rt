@@ -1,4 +1,6 @@
 //! Functions that other languages call.
+#![tactic(auto)]
+
 mod reading;
 
 pub use reading::zinniahoe_read;

@@ -1,4 +1,6 @@
 //! Reading a text: its header, its blocks, and the table that it means.
+#![tactic(auto)]
+
 mod body;
 mod expect;
 mod header;

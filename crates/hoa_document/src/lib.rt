@@ -1,4 +1,6 @@
 //! What a text says: the table that its document denotes, and its names; or the text's first fault.
+#![tactic(auto)]
+
 mod body;
 mod document;
 mod expect;

@@ -1,6 +1,8 @@
 //! The grammar of the text: documents as trees, the tokens that write them, and the laws of reading.
 //!
 //! There is no code here to run. Each function holds the place of a law until a call that it belongs to cites it.
+#![tactic(auto)]
+
 ghost use Rattle.hoa_grammar.specs.Laws.{EveryTextRead, OneDocument, OneFault, FaultExcludesDocument};
 
 /// Every text is a document that keeps the limits, or has a first fault.

@@ -1,4 +1,6 @@
 //! Labels of edges: terms joined by `|`, factors joined by `&`; each label is a set of letters.
+#![tactic(auto)]
+
 mod label;
 mod letters;
 mod part;

@@ -1,4 +1,6 @@
 //! Reading a text into a table, handing out its names, and matching the names of two texts.
+#![tactic(auto)]
+
 mod differing;
 mod matching;
 mod naming;

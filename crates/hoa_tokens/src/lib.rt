@@ -2,6 +2,8 @@
 //!
 //! `Text::new` takes a text within the size limit, `Text::scan` finds the token at or behind a position,
 //! and `Text::count` goes through the whole text. What is wrong with a text is a `Fault`.
+#![tactic(auto)]
+
 mod class;
 mod count;
 mod fault;

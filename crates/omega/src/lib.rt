@@ -1,6 +1,8 @@
 //! Endless words, automata that accept them, lassos and rankings: the definitions, and the laws between them.
 //!
 //! There is no code here to run. Each function holds the place of a law until a call that it belongs to cites it.
+#![tactic(auto)]
+
 ghost use Rattle.omega.specs.Laws.{RankingRefutes, LassoShowsWord, WordGivesLasso, LassoOrLeast};
 
 /// A ranking rules out every accepted word.

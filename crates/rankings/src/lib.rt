@@ -1,4 +1,6 @@
 //! Whether an automaton accepts some endless word, and its least ranking where it accepts none.
+#![tactic(auto)]
+
 mod deciding;
 mod raising;
 #[cfg(test)]

@@ -1,4 +1,6 @@
 //! What the program says of the texts that it is given: from the files' bytes to the lines that it prints.
+#![tactic(auto)]
+
 mod listing;
 mod refusal;
 mod report;

@@ -1,4 +1,6 @@
 //! A sheet: a table with a count of its edits, and the calls on it.
+#![tactic(auto)]
+
 mod reading;
 mod rechecking;
 mod sheet;

@@ -1,4 +1,6 @@
 //! Automata as tables over lent cells, and drafts that fill them.
+#![tactic(auto)]
+
 mod draft;
 mod questions;
 mod refusal;
