@@ -4,5 +4,5 @@ use Rattle.omega.specs.Automata.{most_states}
 use Rattle.census.specs.Counts.{total, steps_by}
 use Rattle.census.proofs.counting.count_from.Given as goal
 
-abbrev pub invariant_loop_letter : goal.invariant_loop_letter
-invariant_loop_letter g l = (l.count ≡ total (steps_by (g.A.Automaton.meaning l.automaton) l.s) l.letter) × (l.count ≤ most_states * l.letter)
+abbrev pub invariant-loop-letter : goal.invariant-loop-letter
+invariant-loop-letter g l = (l.count ≡ total (steps_by (g.A.Automaton.meaning l.automaton) l.s) l.letter) × (l.count ≤ most_states * l.letter)

@@ -3,5 +3,5 @@ use Rattle.std.specs.List.{prefix_len}
 use Rattle.conformance.specs.Fields.{unlike}
 use Rattle.conformance.proofs.field.place.Given as goal
 
-abbrev pub invariant_loop_i : goal.invariant_loop_i
-invariant_loop_i l = prefix_len (unlike l.b) l.bytes ≡ l.i + prefix_len (unlike l.b) (drop l.i l.bytes)
+abbrev pub invariant-loop-i : goal.invariant-loop-i
+invariant-loop-i l = prefix_len (unlike l.b) l.bytes ≡ l.i + prefix_len (unlike l.b) (drop l.i l.bytes)

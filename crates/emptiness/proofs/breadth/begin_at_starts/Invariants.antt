@@ -2,5 +2,5 @@
 use Rattle.emptiness.proofs.Starting.{StartsBelow}
 use Rattle.emptiness.proofs.breadth.begin_at_starts.Given as goal
 
-abbrev pub invariant_loop_s : goal.invariant_loop_s
-invariant_loop_s g l = StartsBelow (g.A.Automaton.meaning l.automaton) l.distance l.queue l.end l.s
+abbrev pub invariant-loop-s : goal.invariant-loop-s
+invariant-loop-s g l = StartsBelow (g.A.Automaton.meaning l.automaton) l.distance l.queue l.end l.s

@@ -2,5 +2,5 @@
 use Rattle.std.proofs.Common.{ℕ, ◌<◌, T}
 use Rattle.emptiness.proofs.breadth.letter_between.Given as goal
 
-abbrev pub invariant_loop_letter : goal.invariant_loop_letter
-invariant_loop_letter g l = (a : ℕ) → a < l.letter → T ((g.A.Automaton.meaning l.automaton).step l.s a l.t) → ⊥
+abbrev pub invariant-loop-letter : goal.invariant-loop-letter
+invariant-loop-letter g l = (a : ℕ) → a < l.letter → T ((g.A.Automaton.meaning l.automaton).step l.s a l.t) → ⊥

@@ -2,6 +2,6 @@
 use Rattle.distances.proofs.Visits.{VisitedBy}
 use Rattle.emptiness.proofs.breadth.visit.Given as goal
 
-abbrev pub invariant_loop_letter : goal.invariant_loop_letter
-invariant_loop_letter g l =
+abbrev pub invariant-loop-letter : goal.invariant-loop-letter
+invariant-loop-letter g l =
     VisitedBy (g.A.Automaton.meaning l.automaton) l.initial.distance l.initial.queue l.distance l.parent l.queue l.head l.end l.reached l.letter

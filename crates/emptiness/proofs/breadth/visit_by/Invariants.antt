@@ -3,9 +3,9 @@ use Rattle.std.proofs.Common.{◌-◌}
 use Rattle.distances.proofs.Visits.{VisitedBelow}
 use Rattle.emptiness.proofs.breadth.visit_by.Given as goal
 
-abbrev pub invariant_loop_t : goal.invariant_loop_t
-invariant_loop_t g l =
+abbrev pub invariant-loop-t : goal.invariant-loop-t
+invariant-loop-t g l =
     VisitedBelow (g.A.Automaton.meaning l.automaton) l.initial.distance l.initial.queue l.distance l.parent l.queue l.head l.end l.reached l.s l.letter l.from
 
-abbrev pub decreases_loop_t : goal.decreases_loop_t
-decreases_loop_t g l = (g.A.Automaton.meaning l.automaton).states - l.from
+abbrev pub decreases-loop-t : goal.decreases-loop-t
+decreases-loop-t g l = (g.A.Automaton.meaning l.automaton).states - l.from

@@ -2,5 +2,5 @@
 use Rattle.emptiness.proofs.Best.{Tried}
 use Rattle.emptiness.proofs.shortest.find_in.Given as goal
 
-abbrev pub invariant_loop_i : goal.invariant_loop_i
-invariant_loop_i g l = Tried (g.A.Automaton.meaning l.automaton) l.distance l.order l.strip l.best l.i
+abbrev pub invariant-loop-i : goal.invariant-loop-i
+invariant-loop-i g l = Tried (g.A.Automaton.meaning l.automaton) l.distance l.order l.strip l.best l.i

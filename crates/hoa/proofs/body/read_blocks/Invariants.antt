@@ -3,8 +3,8 @@ use Rattle.std.proofs.Common.{◌-◌, ◌<◌}
 use Rattle.hoa.specs.Drafting.{BlocksRead}
 use Rattle.hoa.proofs.body.read_blocks.Given as goal
 
-abbrev pub invariant_loop_signals : goal.invariant_loop_signals
-invariant_loop_signals l = (l.described < 18446744073709551616) × BlocksRead l.text.bytes.now l.states l.signals.count l.described l.draft l.head
+abbrev pub invariant-loop-signals : goal.invariant-loop-signals
+invariant-loop-signals l = (l.described < 18446744073709551616) × BlocksRead l.text.bytes.now l.states l.signals.count l.described l.draft l.head
 
-abbrev pub decreases_loop_signals : goal.decreases_loop_signals
-decreases_loop_signals l = 18446744073709551616 - l.described
+abbrev pub decreases-loop-signals : goal.decreases-loop-signals
+decreases-loop-signals l = 18446744073709551616 - l.described

@@ -6,5 +6,5 @@ use Rattle.hoa_grammar.specs.Reading.{Reached}
 use Rattle.hoa.proofs.expect.expect_all.Given as goal
 
 -- the tokens from the index on are due
-abbrev pub invariant_loop_token : goal.invariant_loop_token
-invariant_loop_token l = (k : Slot) → Reached l.text.bytes.now (due (map lexeme l.tokens) k) l.initial.head → Reached l.text.bytes.now (due (map lexeme (drop l.token-index l.tokens)) k) l.head
+abbrev pub invariant-loop-token : goal.invariant-loop-token
+invariant-loop-token l = (k : Slot) → Reached l.text.bytes.now (due (map lexeme l.tokens) k) l.initial.head → Reached l.text.bytes.now (due (map lexeme (drop l.token-index l.tokens)) k) l.head

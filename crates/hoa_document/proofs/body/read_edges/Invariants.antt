@@ -7,8 +7,8 @@ use Rattle.hoa_document.specs.Drafting.{Sized, InBlock}
 use Rattle.hoa_document.proofs.Advance.{left}
 use Rattle.hoa_document.proofs.body.read_edges.Given as goal
 
-abbrev pub invariant_loop_signals : goal.invariant_loop_signals
-invariant_loop_signals l = (h : Header) (bs : Row Block) (b : Block) → Sized h l.states l.signals.count → InBlock l.text.bytes.now h bs b l.from l.initial.draft l.initial.head → (b' : Block) × InBlock l.text.bytes.now h bs b' l.from l.draft l.head
+abbrev pub invariant-loop-signals : goal.invariant-loop-signals
+invariant-loop-signals l = (h : Header) (bs : Row Block) (b : Block) → Sized h l.states l.signals.count → InBlock l.text.bytes.now h bs b l.from l.initial.draft l.initial.head → (b' : Block) × InBlock l.text.bytes.now h bs b' l.from l.draft l.head
 
-abbrev pub decreases_loop_signals : goal.decreases_loop_signals
-decreases_loop_signals l = left l.text.bytes.now (found (Ok l.head))
+abbrev pub decreases-loop-signals : goal.decreases-loop-signals
+decreases-loop-signals l = left l.text.bytes.now (found (Ok l.head))

@@ -6,5 +6,5 @@ use Rattle.hoa_document.specs.Naming.{first_names}
 use Rattle.hoa_document.proofs.header.is_repeated.Given as goal
 
 -- none of the first i names is this one
-abbrev pub invariant_loop_i : goal.invariant_loop_i
-invariant_loop_i l = some (alike l.name) (first_names l.names l.i) ≡ false
+abbrev pub invariant-loop-i : goal.invariant-loop-i
+invariant-loop-i l = some (alike l.name) (first_names l.names l.i) ≡ false

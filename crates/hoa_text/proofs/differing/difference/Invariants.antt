@@ -3,5 +3,5 @@ use Rattle.std.proofs.Common.{ℕ, ◌<◌}
 use Rattle.hoa_text.specs.Differences.{Share}
 use Rattle.hoa_text.proofs.differing.difference.Given as goal
 
-abbrev pub invariant_loop_i : goal.invariant_loop_i
-invariant_loop_i l = (k : ℕ) → k < l.i → Share l.a l.b k
+abbrev pub invariant-loop-i : goal.invariant-loop-i
+invariant-loop-i l = (k : ℕ) → k < l.i → Share l.a l.b k

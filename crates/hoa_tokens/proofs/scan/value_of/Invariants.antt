@@ -2,5 +2,5 @@ use Rattle.std.proofs.Common.{◌≡◌, ◌≤◌, min, drop}
 use Rattle.hoa_tokens.specs.Bytes.{value, value_after}
 use Rattle.hoa_tokens.proofs.scan.value_of.Given as goal
 
-abbrev pub invariant_loop_d : goal.invariant_loop_d
-invariant_loop_d l = (l.n ≤ 10000) × (min 10000 (value_after l.n (drop l.d-index l.digits)) ≡ min 10000 (value l.digits))
+abbrev pub invariant-loop-d : goal.invariant-loop-d
+invariant-loop-d l = (l.n ≤ 10000) × (min 10000 (value_after l.n (drop l.d-index l.digits)) ≡ min 10000 (value l.digits))

@@ -2,5 +2,5 @@
 use Rattle.std.proofs.Common.{◌≡◌, take, replicate}
 use Rattle.lending.proofs.words.clear.Given as goal
 
-abbrev pub invariant_loop_word : goal.invariant_loop_word
-invariant_loop_word l = take l.word-index l.words ≡ replicate l.word-index 0
+abbrev pub invariant-loop-word : goal.invariant-loop-word
+invariant-loop-word l = take l.word-index l.words ≡ replicate l.word-index 0
