@@ -8,4 +8,4 @@ returns-then-not-closes-name c =
 
 pub returns : goal.returns
 returns c =
-    name_stands c.args.text.now c.args.place c.run-end-end.result c.requires.within c.requires.begins c.run-end-end.ensures (sym c.if-not-closes-name.ensures)
+    name_stands c.args.text.now c.args.place c.run_end-end.result c.requires.within c.requires.begins c.run_end-end.ensures (sym c.if-not-closes_name.ensures)

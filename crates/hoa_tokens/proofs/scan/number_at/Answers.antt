@@ -13,5 +13,5 @@ returns-then-not-is-plain c =
 
 pub returns : goal.returns
 returns c =
-    let fine = sym c.if-not-is-plain.ensures in
-    number_stands c.args.text.now c.args.place c.run-end-next.result c.requires.begins c.run-end-next.ensures c.value-of-n.result fine (plain_value (span c.args.text.now c.args.place c.run-end-next.result) c.value-of-n.result fine c.value-of-n.ensures)
+    let fine = sym c.if-not-is_plain.ensures in
+    number_stands c.args.text.now c.args.place c.run_end-next.result c.requires.begins c.run_end-next.ensures c.value_of-n.result fine (plain_value (span c.args.text.now c.args.place c.run_end-next.result) c.value_of-n.result fine c.value_of-n.ensures)

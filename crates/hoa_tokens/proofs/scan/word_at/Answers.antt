@@ -5,5 +5,5 @@ use Rattle.hoa_tokens.proofs.scan.word_at.Goals as goal
 
 pub returns : goal.returns
 returns c =
-    Stands.item word c.past-colon-next.result
-    (word_longest c.args.text.now c.args.place c.run-end.result c.past-colon-next.result c.requires.begins c.run-end.ensures c.past-colon-next.ensures)
+    Stands.item word c.past_colon-next.result
+    (word_longest c.args.text.now c.args.place c.run_end.result c.past_colon-next.result c.requires.begins c.run_end.ensures c.past_colon-next.ensures)

@@ -19,8 +19,8 @@ pub returns-in-End : goal.returns-in-End
 returns-in-End c =
     let text = c.args.self.bytes.now in
     let from = c.loop-found.from in
-    let t = c.in-ok-found.found in
-    let said : Scanned text from (found (Ok t)) × Ahead text from (found (Ok t)) = (unclipped (λ i. Scanned text i (found (Ok t))) text from c.loop-found.invariant.1 c.in-ok-found.ensures.scanned, unclipped (λ i. Ahead text i (found (Ok t))) text from c.loop-found.invariant.1 c.in-ok-found.ensures.ahead) in
+    let t = c.in_ok-found.found in
+    let said : Scanned text from (found (Ok t)) × Ahead text from (found (Ok t)) = (unclipped (λ i. Scanned text i (found (Ok t))) text from c.loop-found.invariant.1 c.in_ok-found.ensures.scanned, unclipped (λ i. Ahead text i (found (Ok t))) text from c.loop-found.invariant.1 c.in_ok-found.ensures.ahead) in
     let at-end = subst (λ k. Scanned text from (token (lexeme k) t.place t.next) × Ahead text from (token (lexeme k) t.place t.next)) c.in-End.is said in
     counted_end text c.args.start from t.place t.next c.loop-found.invariant.2.0 c.loop-found.tokens c.loop-found.invariant.2.2 c.loop-found.invariant.2.1 at-end.1 at-end.0
 
@@ -28,11 +28,11 @@ pub overflow-add-tokens : goal.overflow-add-tokens
 overflow-add-tokens c = omega (arith, c.loop-found.invariant.0, c.loop-found.invariant.1)
 
 -- the scan went on, within the text
-ahead : (c : goal.In-default) → (c.loop-found.from < c.in-ok-found.found.next) × (c.in-ok-found.found.next ≤ length c.args.self.bytes.now)
+ahead : (c : goal.In_default) → (c.loop-found.from < c.in_ok-found.found.next) × (c.in_ok-found.found.next ≤ length c.args.self.bytes.now)
 ahead c =
     let text = c.args.self.bytes.now in
-    let t = c.in-ok-found.found in
-    ahead_of t.token text c.loop-found.from t.place t.next c.in-default.not-End (unclipped (λ i. Ahead text i (found (Ok t))) text c.loop-found.from c.loop-found.invariant.1 c.in-ok-found.ensures.ahead)
+    let t = c.in_ok-found.found in
+    ahead_of t.token text c.loop-found.from t.place t.next c.in_default.not-End (unclipped (λ i. Ahead text i (found (Ok t))) text c.loop-found.from c.loop-found.invariant.1 c.in_ok-found.ensures.ahead)
 
 pub loop-found-smaller : goal.loop-found-smaller
 loop-found-smaller c = omega (arith, ahead c)
@@ -40,8 +40,8 @@ loop-found-smaller c = omega (arith, ahead c)
 pub loop-found-preserved : goal.loop-found-preserved
 loop-found-preserved c =
     let text = c.args.self.bytes.now in
-    let t = c.in-ok-found.found in
+    let t = c.in_ok-found.found in
     let sofar = c.loop-found.invariant.2 in
     let h = ahead c in
     let longer : length (sofar.0 ++ token (lexeme t.token) t.place t.next ∷ []) ≡ c.loop-found.tokens + 1 = simp (length-append, sofar.1) in
-    (omega (arith, c.loop-found.invariant.0), h.1, (_, longer, grown_more t.token text c.args.start c.loop-found.from t.place t.next sofar.0 sofar.2 c.in-default.not-End (unclipped (λ i. Scanned text i (found (Ok t))) text c.loop-found.from c.loop-found.invariant.1 c.in-ok-found.ensures.scanned)))
+    (omega (arith, c.loop-found.invariant.0), h.1, (_, longer, grown_more t.token text c.args.start c.loop-found.from t.place t.next sofar.0 sofar.2 c.in-default.not-End (unclipped (λ i. Scanned text i (found (Ok t))) text c.loop-found.from c.loop-found.invariant.1 c.in_ok-found.ensures.scanned)))
