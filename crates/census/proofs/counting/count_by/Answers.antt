@@ -16,7 +16,7 @@ returns g c =
     let A = g.A.Automaton.meaning c.args.automaton.now in
     let sound = g.A.Automaton.sound c.args.automaton.now in
     let i = c.loop-t.invariant in
-    let none = c.in-default.ensures.is in
+    let none = c.in_default.ensures.is in
     record {
       is = i.0 ∙ sym (tally_none (A.step c.args.s c.args.letter) c.loop-t.from A.states i.2 (λ k low inside. none k low));
       few = omega (arith, i.1, i.2, sound.few);

@@ -10,8 +10,8 @@ loop-b-preserved c =
     let written = c.args.written.now in
     let i = c.loop-b.b-index in
     let was = vec_items c.loop-b.bytes in
-    let joined = vec_items c.push-if.new.bytes in
-    let both = c.in-ok-push-if.ensures ∙ ap (λ (z : List ℕ). was ++ z) c.step-next.ensures.gives in
+    let joined = vec_items c.push_if.new.bytes in
+    let both = c.in_ok-push_if.ensures ∙ ap (λ (z : List ℕ). was ++ z) c.step-next.ensures.gives in
     let more = unescaped_more c.loop-b.escape written (unescaped Plain written) was joined i c.loop-b-test.true c.loop-b.invariant both in
     subst (λ (e : Escape). joined ++ unescaped e (drop (i + 1) written) ≡ unescaped Plain written) (sym c.step-next.ensures.after) more
 

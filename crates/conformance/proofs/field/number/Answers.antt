@@ -9,7 +9,7 @@ loop-digit-preserved c =
     let digits = c.args.digits.now in
     let i = c.loop-digit.digit-index in
     let more = fold_more grown_by_digit 0 digits i 0 c.loop-digit-test.true in
-    (c.with-digit-value.ensures.is ∙ (ap (λ (v : ℕ). grown_by_digit v (get_or digits i 0)) c.loop-digit.invariant.0 ∙ sym more), c.with-digit-value.ensures.few)
+    (c.with_digit-value.ensures.is ∙ (ap (λ (v : ℕ). grown_by_digit v (get_or digits i 0)) c.loop-digit.invariant.0 ∙ sym more), c.with_digit-value.ensures.few)
 
 pub returns : goal.returns
 returns c = record {

@@ -10,13 +10,13 @@ pub loop-s-preserved : goal.loop-s-preserved
 loop-s-preserved g c =
     let A = g.A.Automaton.meaning c.args.automaton.now in
     let is = c.states-s-end.ensures.is in
-    elim c.if-is-start.branch [
+    elim c.if-is_start.branch [
       | then-is-start w ↦
           rw (w.distance-is, w.queue-is, w.end-is)
-          (start_more A c.loop-s.distance c.loop-s.queue c.loop-s.end c.loop-s.s c.loop-s.invariant (omega arith) (subst T w.if-is-start.ensures.is tt))
+          (start_more A c.loop-s.distance c.loop-s.queue c.loop-s.end c.loop-s.s c.loop-s.invariant (omega arith) (subst T w.if-is_start.ensures.is tt))
       | else-is-start w ↦
           rw (w.distance-is, w.queue-is, w.end-is)
-          (start_skip A c.loop-s.distance c.loop-s.queue c.loop-s.end c.loop-s.s c.loop-s.invariant (omega arith) (λ start. subst T (sym w.if-is-start.ensures.is) start))
+          (start_skip A c.loop-s.distance c.loop-s.queue c.loop-s.end c.loop-s.s c.loop-s.invariant (omega arith) (λ start. subst T (sym w.if-is_start.ensures.is) start))
     ]
 
 pub returns : goal.returns

@@ -6,8 +6,8 @@ pub loop-letter-init : goal.loop-letter-init
 loop-letter-init g c =
     (visited_none (g.A.Automaton.meaning c.args.automaton.now) c.args.distance.now c.args.parent.now c.args.queue.now c.args.head c.args.end c.requires.searched, λ a t b. absurd (omega arith))
 
-pub visit-by-reached-requires : goal.visit-by-reached-requires
-visit-by-reached-requires g c =
+pub visit_by-reached-requires : goal.visit_by-reached-requires
+visit_by-reached-requires g c =
     let grows = c.loop-letter.invariant.0.grows in
     let some = c.requires.some in
     record { searched = c.loop-letter.invariant.0.searched; some = omega arith }
@@ -16,7 +16,7 @@ pub loop-letter-preserved : goal.loop-letter-preserved
 loop-letter-preserved g c =
     letter-visited (g.A.Automaton.meaning c.args.automaton.now) c.args.distance.now c.args.queue.now c.loop-letter.distance c.loop-letter.parent c.loop-letter.queue
     c.args.head c.args.end c.loop-letter.reached c.loop-letter.letter c.requires.some c.loop-letter.invariant
-    c.visit-by-reached.new.distance c.visit-by-reached.new.parent c.visit-by-reached.new.queue c.visit-by-reached.result c.visit-by-reached.ensures.visited c.visit-by-reached.ensures.all
+    c.visit_by-reached.new.distance c.visit_by-reached.new.parent c.visit_by-reached.new.queue c.visit_by-reached.result c.visit_by-reached.ensures.visited c.visit_by-reached.ensures.all
 
 pub returns : goal.returns
 returns g c =

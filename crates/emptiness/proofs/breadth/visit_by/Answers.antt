@@ -24,4 +24,4 @@ loop-t-preserved g c =
 
 pub returns : goal.returns
 returns g c =
-    record { visited = c.loop-t.invariant.0; all = none_left_all_seen _ _ c.loop-t.from c.loop-t.invariant.2 c.in-default.ensures.is }
+    record { visited = c.loop-t.invariant.0; all = none_left_all_seen _ _ c.loop-t.from c.loop-t.invariant.2 c.in_default.ensures.is }

@@ -8,14 +8,14 @@ loop-head-init g c =
     let kept = c.clear.auto.words in
     return-begins (g.A.Automaton.meaning c.args.automaton.now) c.clear.new.words c.args.parent.now c.args.queue.now c.args.g (all_zero _ _ c.clear.ensures) (omega arith) wide.parents wide.places c.requires.state
 
-pub overflow-cast-t : goal.overflow-cast-t
-overflow-cast-t g c =
+pub overflow_cast-t : goal.overflow_cast-t
+overflow_cast-t g c =
     let fits = (head_fits (g.A.Automaton.meaning c.args.automaton.now) c.args.g c.loop-head.distance c.loop-head.parent c.loop-head.queue c.loop-head.head c.loop-head.end c.loop-head.invariant c.loop-head-test.true).2 in
     let few = (g.A.Automaton.sound c.args.automaton.now).few in
     search rules
 
-pub offset-bounds-queue-head : goal.offset-bounds-queue-head
-offset-bounds-queue-head g c =
+pub offset_bounds-queue-head : goal.offset_bounds-queue-head
+offset_bounds-queue-head g c =
     let fits = (head_fits (g.A.Automaton.meaning c.args.automaton.now) c.args.g c.loop-head.distance c.loop-head.parent c.loop-head.queue c.loop-head.head c.loop-head.end c.loop-head.invariant c.loop-head-test.true).2 in
     let few = (g.A.Automaton.sound c.args.automaton.now).few in
     search rules
@@ -36,7 +36,7 @@ loop-head-smaller g c =
 pub loop-head-preserved : goal.loop-head-preserved
 loop-head-preserved g c =
     return-on (g.A.Automaton.meaning c.args.automaton.now) c.args.g c.loop-head.distance c.loop-head.parent c.loop-head.queue c.loop-head.head c.loop-head.end c.loop-head.invariant c.loop-head-test.true
-    c.visit-end.new.distance c.visit-end.new.parent c.visit-end.new.queue c.visit-end.result c.in-default.ensures c.visit-end.ensures
+    c.visit-end.new.distance c.visit-end.new.parent c.visit-end.new.queue c.visit-end.result c.in_default.ensures c.visit-end.ensures
 
 pub returns-then-distance-t : goal.returns-then-distance-t
 returns-then-distance-t g c =

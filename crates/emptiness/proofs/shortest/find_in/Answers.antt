@@ -6,8 +6,8 @@ use Rattle.emptiness.proofs.Starting.{starts-kept}
 use Rattle.emptiness.proofs.Best.{Tried, tried-more, best_shortest, lasso_found}
 use Rattle.emptiness.proofs.shortest.find_in.Goals as goal
 
-pub begin-at-starts-sources-requires : goal.begin-at-starts-sources-requires
-begin-at-starts-sources-requires g c =
+pub begin_at_starts-sources-requires : goal.begin_at_starts-sources-requires
+begin_at_starts-sources-requires g c =
     let wide = c.requires.wide.distances in
     let kept = c.clear.auto.words in
     record { distances = omega arith; places = c.requires.wide.places; none = all_zero _ _ c.clear.ensures }
@@ -24,13 +24,13 @@ improve-best-requires g c =
     let parents = wide.parents in
     let places = wide.places in
     let room = c.requires.strip in
-    let kept-distance = c.loop-i.auto.back-distance in
-    let kept-parent = c.loop-i.auto.back-parent in
+    let kept-distance = c.loop-i.auto.back_distance in
+    let kept-parent = c.loop-i.auto.back_parent in
     let kept-queue = c.loop-i.auto.queue in
     let kept-strip = c.loop-i.auto.strip in
     record {
       traced = searched_traced A c.spread-end.new.distance c.spread-end.new.parent c.spread-end.new.queue c.spread-end.result c.spread-end.result c.spread-end.ensures.searched;
-      starts = λ s. (starts-kept A c.begin-at-starts-sources.new.distance c.spread-end.new.distance c.spread-end.ensures.extends c.begin-at-starts-sources.ensures.starts s).0;
+      starts = λ s. (starts-kept A c.begin_at_starts-sources.new.distance c.spread-end.new.distance c.spread-end.ensures.extends c.begin_at_starts-sources.ensures.starts s).0;
       reached = c.spread-end.ensures.searched.tree.queued c.loop-i.i c.loop-i-test.true;
       back = record { distances = omega arith; parents = omega arith; places = omega arith };
       room = omega arith;
@@ -48,7 +48,7 @@ returns g c =
     let n = c.states-n.ensures.is in
     let e : c.loop-i.i ≡ c.spread-end.result = omega arith in
     let tried = subst (Tried A c.spread-end.new.distance c.spread-end.new.queue c.loop-i.strip c.loop-i.best) e c.loop-i.invariant in
-    let starts = starts-kept A c.begin-at-starts-sources.new.distance c.spread-end.new.distance c.spread-end.ensures.extends c.begin-at-starts-sources.ensures.starts in
+    let starts = starts-kept A c.begin_at_starts-sources.new.distance c.spread-end.new.distance c.spread-end.ensures.extends c.begin_at_starts-sources.ensures.starts in
     record {
       some = λ found.
           let few = leb→le _ _ found in

@@ -1,14 +1,14 @@
 use Rattle.std.proofs.Common.{arith}
 use Rattle.emptiness.proofs.shortest.improve.Goals as goal
 
-pub returns-in-default : goal.returns-in-default
-returns-in-default g c =
+pub returns-in_default : goal.returns-in_default
+returns-in_default g c =
     let near = c.requires.traced.near c.args.g in
     let reached = c.requires.reached in
     record {
       tells = c.requires.tells;
       less = omega arith;
-      least = λ _ k path. let (x, y) = c.in-default.ensures k path in (omega arith, omega arith);
+      least = λ _ k path. let (x, y) = c.in_default.ensures k path in (omega arith, omega arith);
     }
 
 pub returns : goal.returns
@@ -18,7 +18,7 @@ returns g c =
     let around = back.traced.near c.in-Some.t in
     let near = c.requires.traced.near c.args.g in
     let reached = c.requires.reached in
-    let told = c.tell-lasso.ensures in
+    let told = c.tell_lasso.ensures in
     let stem = told.stem in
     let round = told.round in
     record {

@@ -14,12 +14,12 @@ pub bounds-parent-t : goal.bounds-parent-t
 bounds-parent-t g c =
     (parent_fits (g.A.Automaton.meaning c.args.automaton.now) c.args.distance.now c.args.parent.now _ c.loop-left.strip c.args.o (at c.args.distance.now c.args.s - 1) c.args.s c.loop-left.left c.loop-left.t c.requires.traced c.loop-left.invariant c.loop-left-test.true).0
 
-pub letter-of-letter-requires : goal.letter-of-letter-requires
-letter-of-letter-requires g c =
+pub letter_of-letter-requires : goal.letter_of-letter-requires
+letter_of-letter-requires g c =
     (parent_fits (g.A.Automaton.meaning c.args.automaton.now) c.args.distance.now c.args.parent.now _ c.loop-left.strip c.args.o (at c.args.distance.now c.args.s - 1) c.args.s c.loop-left.left c.loop-left.t c.requires.traced c.loop-left.invariant c.loop-left-test.true).2
 
-pub write-step-requires : goal.write-step-requires
-write-step-requires g c =
+pub write_step-requires : goal.write_step-requires
+write_step-requires g c =
     let few = c.loop-left.invariant.few in
     let fits = c.loop-left.invariant.fits in
     let near = c.requires.traced.near c.args.s in
@@ -29,9 +29,9 @@ write-step-requires g c =
 
 pub loop-left-preserved : goal.loop-left-preserved
 loop-left-preserved g c =
-    rw c.write-step.ensures
+    rw c.write_step.ensures
     (telling-more (g.A.Automaton.meaning c.args.automaton.now) c.args.distance.now c.args.parent.now _ c.loop-left.strip c.args.o (at c.args.distance.now c.args.s - 1) c.args.s c.loop-left.left c.loop-left.t c.requires.traced c.loop-left.invariant
-    c.letter-of-letter.result c.loop-left-test.true c.letter-of-letter.ensures)
+    c.letter_of-letter.result c.loop-left-test.true c.letter_of-letter.ensures)
 
 pub returns : goal.returns
 returns g c k far =

@@ -11,17 +11,17 @@ returns g c =
     let n = c.states-n.result in
     let count = c.states-n.ensures.is in
     let (second, third) = c.if-not-opens.ensures.0 tt in
-    let long = c.if-not-has-ranks.ensures.0 tt in
+    let long = c.if-not-has_ranks.ensures.0 tt in
     let ranking = part_ranking A (g.A.Automaton.sound c.args.automaton.now) strip n count long in
-    let tells : T c.are-ranked.result ↔ TellsRanking A strip = (
+    let tells : T c.are_ranked.result ↔ TellsRanking A strip = (
       λ yes.
           record {
             verdict = c.requires.verdict;
             states = second ∙ count;
             zero = third;
             long = omega arith;
-            ranking = ranking.0 (c.are-ranked.ensures.0 yes);
+            ranking = ranking.0 (c.are_ranked.ensures.0 yes);
           },
-      λ told. c.are-ranked.ensures.1 (ranking.1 told.ranking),
+      λ told. c.are_ranked.ensures.1 (ranking.1 told.ranking),
     ) in
     record { tells = tells; worth = λ yes. told_ranking_refutes A strip (tells.0 yes) }

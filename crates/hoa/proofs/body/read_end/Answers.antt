@@ -6,16 +6,16 @@ use Rattle.hoa.proofs.Dues.{expected_due}
 use Rattle.hoa.proofs.Blocks.{blocks_over, text_ends, text_goes_on}
 use Rattle.hoa.proofs.body.read_end.Goals as goal
 
-pub returns-in-err-last : goal.returns-in-err-last
-returns-in-err-last c =
-    let p = err_from_is_err_and c.from-residual.result c.from-residual.ensures.1 in
-    rw (p.1, p.2) (λ h rows st. expected_due (blocks_over h rows c.requires st) refl (Err _) c.in-err-last.ensures)
+pub returns-in_err-last : goal.returns-in_err-last
+returns-in_err-last c =
+    let p = err_from_is_err_and c.from_residual.result c.from_residual.ensures.1 in
+    rw (p.1, p.2) (λ h rows st. expected_due (blocks_over h rows c.requires st) refl (Err _) c.in_err-last.ensures)
 
-pub returns-in-default : goal.returns-in-default
-returns-in-default c h rows st =
+pub returns-in_default : goal.returns-in_default
+returns-in_default c h rows st =
     subst (Refused c.args.text.bytes.now) (sym c.unexpected.ensures)
-    (text_goes_on (record { header = h; blocks = rows }) (expected_due (blocks_over h rows c.requires st) refl (Ok c.in-ok-last.last) c.in-ok-last.ensures) c.in-default.not-End)
+    (text_goes_on (record { header = h; blocks = rows }) (expected_due (blocks_over h rows c.requires st) refl (Ok c.in_ok-last.last) c.in_ok-last.ensures) c.in_default.not-End)
 
 pub returns : goal.returns
 returns c h rows st =
-    text_ends (record { header = h; blocks = rows }) (expected_due (blocks_over h rows c.requires st) refl (Ok c.in-ok-last.last) c.in-ok-last.ensures) c.in-End.is
+    text_ends (record { header = h; blocks = rows }) (expected_due (blocks_over h rows c.requires st) refl (Ok c.in_ok-last.last) c.in_ok-last.ensures) c.in-End.is

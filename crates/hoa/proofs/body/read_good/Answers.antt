@@ -5,24 +5,24 @@ use Rattle.hoa_grammar.specs.Machine.{edges, opened}
 use Rattle.hoa.proofs.Blocks.{block_plain, brace_opens, block_good}
 use Rattle.hoa.proofs.body.read_good.Goals as goal
 
-pub returns-then-not-is-mark : goal.returns-then-not-is-mark
-returns-then-not-is-mark c h bs drafted inside r =
-    block_plain h bs c.args.from r c.args.draft.now drafted (c.is-mark.ensures.other c.if-not-is-mark.true)
+pub returns-then-not-is_mark : goal.returns-then-not-is_mark
+returns-then-not-is_mark c h bs drafted inside r =
+    block_plain h bs c.args.from r c.args.draft.now drafted (c.is_mark.ensures.other c.if-not-is_mark.true)
 
-pub returns-in-err-zero : goal.returns-in-err-zero
-returns-in-err-zero c =
-    let p = err_from_is_err_and c.from-residual.result c.from-residual.ensures.1 in
-    rw (p.1, p.2) (λ h bs drafted inside r. brace_opens h bs c.args.from r (c.is-mark.ensures.is c.if-not-is-mark.false) (Err _) c.in-err-zero.ensures.scanned)
+pub returns-in_err-zero : goal.returns-in_err-zero
+returns-in_err-zero c =
+    let p = err_from_is_err_and c.from_residual.result c.from_residual.ensures.1 in
+    rw (p.1, p.2) (λ h bs drafted inside r. brace_opens h bs c.args.from r (c.is_mark.ensures.is c.if-not-is_mark.false) (Err _) c.in_err-zero.ensures.scanned)
 
-pub returns-in-err-behind : goal.returns-in-err-behind
-returns-in-err-behind c =
-    let p = err_from_is_err_and c.from-residual-in-err-behind.result c.from-residual-in-err-behind.ensures.1 in
+pub returns-in_err-behind : goal.returns-in_err-behind
+returns-in_err-behind c =
+    let p = err_from_is_err_and c.from_residual-in_err-behind.result c.from_residual-in_err-behind.ensures.1 in
     rw (p.1, p.2)
     (λ h bs drafted inside r.
-    let zero = brace_opens h bs c.args.from r (c.is-mark.ensures.is c.if-not-is-mark.false) (Ok c.in-ok-zero.zero) c.in-ok-zero.ensures.scanned in
-    c.in-err-behind.ensures (edges (opened h bs c.args.from true)) zero)
+    let zero = brace_opens h bs c.args.from r (c.is_mark.ensures.is c.if-not-is_mark.false) (Ok c.in_ok-zero.zero) c.in_ok-zero.ensures.scanned in
+    c.in_err-behind.ensures (edges (opened h bs c.args.from true)) zero)
 
 pub returns : goal.returns
 returns c h bs drafted inside r =
-    let zero = brace_opens h bs c.args.from r (c.is-mark.ensures.is c.if-not-is-mark.false) (Ok c.in-ok-zero.zero) c.in-ok-zero.ensures.scanned in
-    block_good h bs c.args.from (c.in-ok-behind.ensures (edges (opened h bs c.args.from true)) zero) c.args.draft.now c.add-good.new.self inside drafted c.add-good.ensures.good c.add-good.ensures.same
+    let zero = brace_opens h bs c.args.from r (c.is_mark.ensures.is c.if-not-is_mark.false) (Ok c.in_ok-zero.zero) c.in_ok-zero.ensures.scanned in
+    block_good h bs c.args.from (c.in_ok-behind.ensures (edges (opened h bs c.args.from true)) zero) c.args.draft.now c.add_good.new.self inside drafted c.add_good.ensures.good c.add_good.ensures.same

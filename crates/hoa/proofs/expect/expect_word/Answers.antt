@@ -5,4 +5,4 @@ use Rattle.hoa.proofs.expect.expect_word.Goals as goal
 
 pub returns : goal.returns
 returns c =
-    expected_here c.args.text.bytes.now c.args.head (word c.args.word.now) (c.is-word.ensures.is c.if-not-is-word.false) (word_not_end c.args.word.now) c.scan.result c.scan.ensures.scanned
+    expected_here c.args.text.bytes.now c.args.head (word c.args.word.now) (c.is_word.ensures.is c.if-not-is_word.false) (word_not_end c.args.word.now) c.scan.result c.scan.ensures.scanned

@@ -19,17 +19,17 @@ returns-in-Err c = record {
 
 pub returns-in-Err-new : goal.returns-in-Err-new
 returns-in-Err-new c = record {
-  read = subst (λ (f : Fault). Unread c.args.bytes.now (length c.args.table.now.cells.now) (Text f)) (sym c.in-Err-new.ensures.0) (long_text c.in-default.ensures c.in-Err-new.ensures.1);
+  read = subst (λ (f : Fault). Unread c.args.bytes.now (length c.args.table.now.cells.now) (Text f)) (sym c.in-Err-new.ensures.0) (long_text c.in_default.ensures c.in-Err-new.ensures.1);
   cells = refl;
   kept = (refl, refl, refl, refl);
   lender = refl;
 }
 
-pub returns-in-Err-read-draft : goal.returns-in-Err-read-draft
-returns-in-Err-read-draft c =
-    let f = c.in-Err-read-draft.fault in
+pub returns-in-Err-read_draft : goal.returns-in-Err-read_draft
+returns-in-Err-read_draft c =
+    let f = c.in-Err-read_draft.fault in
     record {
-      read = faulty c.in-default.ensures (text_fault c.args.bytes.now f c.in-Ok.ensures.1 (subst (λ text. Refused text f) c.in-Ok.ensures.0 c.in-Err-read-draft.ensures));
+      read = faulty c.in_default.ensures (text_fault c.args.bytes.now f c.in-Ok.ensures.1 (subst (λ text. Refused text f) c.in-Ok.ensures.0 c.in-Err-read_draft.ensures));
       cells = refl;
       kept = (refl, refl, refl, refl);
       lender = refl;
@@ -37,9 +37,9 @@ returns-in-Err-read-draft c =
 
 pub returns-in-Ok-fill : goal.returns-in-Ok-fill
 returns-in-Ok-fill c =
-    let draft = c.in-Ok-read-draft.draft in
+    let draft = c.in-Ok-read_draft.draft in
     let table = c.fill.new.self in
-    let read = c.in-Ok-read-draft.ensures in
+    let read = c.in-Ok-read_draft.ensures in
     let same = c.in-Ok-fill.ensures.table in
     let cells = c.in-Ok-fill.ensures.cells in
     record {

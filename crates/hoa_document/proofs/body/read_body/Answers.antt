@@ -10,8 +10,8 @@ use Rattle.hoa_document.proofs.HeldNames.{size_first}
 use Rattle.hoa_document.proofs.Drafts.{drafted_empty, described_none}
 use Rattle.hoa_document.proofs.body.read_body.Goals as goal
 
-pub read-blocks-requires : goal.read-blocks-requires
-read-blocks-requires c =
+pub read_blocks-requires : goal.read_blocks-requires
+read_blocks-requires c =
     let x = c.args.header in
     let header = header_of x.states c.requires.row (first_names x.names.list x.names.count) c.requires.told in
     let size = size_first x.names.list x.names.count in
@@ -24,19 +24,19 @@ read-blocks-requires c =
         rows = none;
         sized = (refl, size ∙ sym counted);
         named = refl;
-        drafted = drafted_empty header x.starts c.unwrap-draft.result c.add-starts.new.self made.0 (made.1 ∙ sym size) made.2 made.3 made.4 c.add-starts.ensures.starts c.add-starts.ensures.same c.requires.started c.requires.within;
+        drafted = drafted_empty header x.starts c.unwrap-draft.result c.add_starts.new.self made.0 (made.1 ∙ sym size) made.2 made.3 made.4 c.add_starts.ensures.starts c.add_starts.ensures.same c.requires.started c.requires.within;
         described = described_none;
         stands = stands_there c.requires.reached;
       };
     }
 
-pub returns-in-err-read-end : goal.returns-in-err-read-end
-returns-in-err-read-end c =
-    let p = err_from_is_err_and c.from-residual-in-err-read-end.result c.from-residual-in-err-read-end.ensures.1 in
-    let b = c.in-ok-head.ensures.1.1 in
-    rw (p.1, p.2) (c.in-err-read-end.ensures b.header b.rows b.stands)
+pub returns-in_err-read_end : goal.returns-in_err-read_end
+returns-in_err-read_end c =
+    let p = err_from_is_err_and c.from_residual-in_err-read_end.result c.from_residual-in_err-read_end.ensures.1 in
+    let b = c.in_ok-head.ensures.1.1 in
+    rw (p.1, p.2) (c.in_err-read_end.ensures b.header b.rows b.stands)
 
 pub returns : goal.returns
 returns c =
-    let b = c.in-ok-head.ensures.1.1 in
-    (record { header = b.header; blocks = b.rows }, c.in-ok-read-end.ensures b.header b.rows b.stands, b.drafted, b.named)
+    let b = c.in_ok-head.ensures.1.1 in
+    (record { header = b.header; blocks = b.rows }, c.in_ok-read_end.ensures b.header b.rows b.stands, b.drafted, b.named)

@@ -7,35 +7,35 @@ use Rattle.hoa_document.proofs.Leading.{number_missing, number_last, number_here
 use Rattle.hoa_document.proofs.Blocks.{not_described, fresh, state_read}
 use Rattle.hoa_document.proofs.body.read_described.Goals as goal
 
-pub returns-in-err-value : goal.returns-in-err-value
-returns-in-err-value c =
-    let p = err_from_is_err_and c.from-residual.result c.from-residual.ensures.1 in
+pub returns-in_err-value : goal.returns-in_err-value
+returns-in_err-value c =
+    let p = err_from_is_err_and c.from_residual.result c.from_residual.ensures.1 in
     rw (p.1, p.2) (record {
-      read = λ h bs states described r. state_read h bs c.args.states c.args.head states r (Err _) (number_missing c.args.text.bytes.now c.args.head (block_limit c.args.states bs) c.in-err-value.ensures.0 _ c.in-err-value.ensures.1);
+      read = λ h bs states described r. state_read h bs c.args.states c.args.head states r (Err _) (number_missing c.args.text.bytes.now c.args.head (block_limit c.args.states bs) c.in_err-value.ensures.0 _ c.in_err-value.ensures.1);
       fresh = tt;
     })
 
-pub returns-in-err-check-described : goal.returns-in-err-check-described
-returns-in-err-check-described c =
-    let p = err_from_is_err_and c.from-residual-in-err-check-described.result c.from-residual-in-err-check-described.ensures.1 in
+pub returns-in_err-check_described : goal.returns-in_err-check_described
+returns-in_err-check_described c =
+    let p = err_from_is_err_and c.from_residual-in_err-check_described.result c.from_residual-in_err-check_described.ensures.1 in
     rw (p.1, p.2) (record {
-      read = λ h bs states described r. state_read h bs c.args.states c.args.head states r (Err _) (not_described c.args.text.bytes.now c.args.head c.args.states bs c.args.described c.in-ok-value.value described c.in-ok-value.ensures _ c.in-err-check-described.ensures);
+      read = λ h bs states described r. state_read h bs c.args.states c.args.head states r (Err _) (not_described c.args.text.bytes.now c.args.head c.args.states bs c.args.described c.in_ok-value.value described c.in_ok-value.ensures _ c.in_err-check_described.ensures);
       fresh = tt;
     })
 
-pub returns-in-err-behind : goal.returns-in-err-behind
-returns-in-err-behind c =
-    let p = err_from_is_err_and c.from-residual-in-err-behind.result c.from-residual-in-err-behind.ensures.1 in
-    let new = c.in-ok-check-described.ensures in
+pub returns-in_err-behind : goal.returns-in_err-behind
+returns-in_err-behind c =
+    let p = err_from_is_err_and c.from_residual-in_err-behind.result c.from_residual-in_err-behind.ensures.1 in
+    let new = c.in_ok-check_described.ensures in
     rw (p.1, p.2) (record {
-      read = λ h bs states described r. state_read h bs c.args.states c.args.head states r (Err _) (number_last c.args.text.bytes.now c.args.head (block_limit c.args.states bs) c.in-ok-value.value c.in-ok-value.ensures (fresh c.args.states bs c.args.described c.in-ok-value.value described new.0 (ne_eqb _ 1 new.1)) _ c.in-err-behind.ensures.scanned);
+      read = λ h bs states described r. state_read h bs c.args.states c.args.head states r (Err _) (number_last c.args.text.bytes.now c.args.head (block_limit c.args.states bs) c.in_ok-value.value c.in_ok-value.ensures (fresh c.args.states bs c.args.described c.in_ok-value.value described new.0 (ne_eqb _ 1 new.1)) _ c.in_err-behind.ensures.scanned);
       fresh = tt;
     })
 
 pub returns : goal.returns
 returns c =
-    let new = c.in-ok-check-described.ensures in
+    let new = c.in_ok-check_described.ensures in
     record {
-      read = λ h bs states described r. state_read h bs c.args.states c.args.head states r (Ok _) (number_here c.args.text.bytes.now c.args.head (block_limit c.args.states bs) c.in-ok-value.value c.in-ok-value.ensures (fresh c.args.states bs c.args.described c.in-ok-value.value described new.0 (ne_eqb _ 1 new.1)) c.in-ok-behind.behind c.in-ok-behind.ensures.scanned);
+      read = λ h bs states described r. state_read h bs c.args.states c.args.head states r (Ok _) (number_here c.args.text.bytes.now c.args.head (block_limit c.args.states bs) c.in_ok-value.value c.in_ok-value.ensures (fresh c.args.states bs c.args.described c.in_ok-value.value described new.0 (ne_eqb _ 1 new.1)) c.in_ok-behind.behind c.in_ok-behind.ensures.scanned);
       fresh = (new.0, ne_eqb _ 1 new.1);
     }

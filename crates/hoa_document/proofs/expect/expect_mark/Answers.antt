@@ -5,4 +5,4 @@ use Rattle.hoa_document.proofs.expect.expect_mark.Goals as goal
 
 pub returns : goal.returns
 returns c =
-    expected_here c.args.text.bytes.now c.args.head (mark c.args.mark) (c.is-mark.ensures.is c.if-not-is-mark.false) (mark_not_end c.args.mark) c.scan.result c.scan.ensures.scanned
+    expected_here c.args.text.bytes.now c.args.head (mark c.args.mark) (c.is_mark.ensures.is c.if-not-is_mark.false) (mark_not_end c.args.mark) c.scan.result c.scan.ensures.scanned

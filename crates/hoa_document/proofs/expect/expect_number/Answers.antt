@@ -6,4 +6,4 @@ use Rattle.hoa_document.proofs.expect.expect_number.Goals as goal
 
 pub returns : goal.returns
 returns c =
-    expected_here c.args.text.bytes.now c.args.head (number c.args.n) (c.in-ok-number.ensures ∙ ap number c.if-branch-n.false) (number_not_end c.args.n) c.scan.result c.scan.ensures.scanned
+    expected_here c.args.text.bytes.now c.args.head (number c.args.n) (c.in_ok-number.ensures ∙ ap number c.if-branch-n.false) (number_not_end c.args.n) c.scan.result c.scan.ensures.scanned

@@ -4,11 +4,11 @@ use Rattle.std.proofs.lemmas.Result.{err_from_is_err_and}
 use Rattle.hoa_document.proofs.Dues.{expected_due}
 use Rattle.hoa_document.proofs.header.read_condition.Goals as goal
 
-pub returns-in-err-head : goal.returns-in-err-head
-returns-in-err-head c k st =
-    let p = err_from_is_err_and c.from-residual.result c.from-residual.ensures.1 in
-    rw (p.1, p.2) (expected_due st refl (Err _) c.in-err-head.ensures)
+pub returns-in_err-head : goal.returns-in_err-head
+returns-in_err-head c k st =
+    let p = err_from_is_err_and c.from_residual.result c.from_residual.ensures.1 in
+    rw (p.1, p.2) (expected_due st refl (Err _) c.in_err-head.ensures)
 
 pub returns : goal.returns
 returns c k st =
-    c.expect-all.ensures k (expected_due st refl (Ok c.in-ok-head.head) c.in-ok-head.ensures)
+    c.expect_all.ensures k (expected_due st refl (Ok c.in_ok-head.head) c.in_ok-head.ensures)

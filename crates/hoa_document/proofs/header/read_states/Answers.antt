@@ -8,18 +8,18 @@ use Rattle.hoa_document.proofs.Leading.{stands_there}
 use Rattle.hoa_document.proofs.Slots.{first_token, count_within}
 use Rattle.hoa_document.proofs.header.read_states.Goals as goal
 
-pub returns-in-err-head : goal.returns-in-err-head
-returns-in-err-head c =
-    let p = err_from_is_err_and c.from-residual.result c.from-residual.ensures.1 in
-    rw (p.1, p.2) (first_token c.args.text.bytes.now (Err _) c.in-err-head.ensures.scanned)
+pub returns-in_err-head : goal.returns-in_err-head
+returns-in_err-head c =
+    let p = err_from_is_err_and c.from_residual.result c.from_residual.ensures.1 in
+    rw (p.1, p.2) (first_token c.args.text.bytes.now (Err _) c.in_err-head.ensures.scanned)
 
-pub returns-in-err-head-2 : goal.returns-in-err-head-2
-returns-in-err-head-2 c =
-    let p = err_from_is_err_and c.from-residual-in-err-head-2.result c.from-residual-in-err-head-2.ensures.1 in
-    rw (p.1, p.2) (c.in-err-head-2.ensures states (first_token c.args.text.bytes.now (Ok c.in-ok-head.head) c.in-ok-head.ensures.scanned))
+pub returns-in_err-head-2 : goal.returns-in_err-head-2
+returns-in_err-head-2 c =
+    let p = err_from_is_err_and c.from_residual-in_err-head-2.result c.from_residual-in_err-head-2.ensures.1 in
+    rw (p.1, p.2) (c.in_err-head-2.ensures states (first_token c.args.text.bytes.now (Ok c.in_ok-head.head) c.in_ok-head.ensures.scanned))
 
 pub returns : goal.returns
 returns c =
-    let first = first_token c.args.text.bytes.now (Ok c.in-ok-head.head) c.in-ok-head.ensures.scanned in
-    let due-number = c.in-ok-head-2.ensures states first in
+    let first = first_token c.args.text.bytes.now (Ok c.in_ok-head.head) c.in_ok-head.ensures.scanned in
+    let due-number = c.in_ok-head-2.ensures states first in
     count_within c.args.text.bytes.now most_states states_limit (λ n. at (starts n none)) c.count.result c.count.ensures.below (c.count.ensures.read (at states) (λ n. at (starts n none)) refl (stands_there due-number))

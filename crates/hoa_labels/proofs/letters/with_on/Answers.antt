@@ -2,5 +2,5 @@
 use Rattle.std.proofs.Common.{◌≡◌, arith}
 use Rattle.hoa_labels.proofs.letters.with_on.Goals as goal
 
-pub returns-in-default : goal.returns-in-default
-returns-in-default c = let three : c.args.signal ≡ 3 = omega arith in rw three
+pub returns-in_default : goal.returns-in_default
+returns-in_default c = let three : c.args.signal ≡ 3 = omega arith in rw three

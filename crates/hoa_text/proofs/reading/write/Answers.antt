@@ -6,11 +6,11 @@ pub returns : goal.returns
 returns c =
     let draft = c.args.draft.now in
     let table = c.fill.new.self in
-    let same = c.in-ok-fill.ensures.table in
-    let cells = c.in-ok-fill.ensures.cells in
+    let same = c.in_ok-fill.ensures.table in
+    let cells = c.in_ok-fill.ensures.cells in
     record {
       denotes = table_denotes draft table.states table.signals table.starts table.goods table.cells.now same.0 same.1 same.2 same.3 cells.1;
       cells = cells_set draft table.states table.signals table.starts table.goods table.cells.now same.0 same.1 same.2 same.3 cells.1 c.args.table.now.cells.now cells.2;
       kept = tt;
-      lender = c.in-ok-fill.ensures.lender;
+      lender = c.in_ok-fill.ensures.lender;
     }

@@ -4,12 +4,12 @@ use Rattle.hoa_tokens.proofs.Standing.{span_digits, number_stands, number_refuse
 use Rattle.hoa_tokens.proofs.Values.{plain_value}
 use Rattle.hoa_tokens.proofs.scan.number_at.Goals as goal
 
-pub value-of-n-requires : goal.value-of-n-requires
-value-of-n-requires c = span_digits c.args.text.now c.args.place c.run-end-next.result c.run-end-next.ensures.each
+pub value_of-n-requires : goal.value_of-n-requires
+value_of-n-requires c = span_digits c.args.text.now c.args.place c.run_end-next.result c.run_end-next.ensures.each
 
-pub returns-then-not-is-plain : goal.returns-then-not-is-plain
-returns-then-not-is-plain c =
-    number_refused c.args.text.now c.args.place c.run-end-next.result c.requires.begins c.run-end-next.ensures (sym c.if-not-is-plain.ensures)
+pub returns-then-not-is_plain : goal.returns-then-not-is_plain
+returns-then-not-is_plain c =
+    number_refused c.args.text.now c.args.place c.run_end-next.result c.requires.begins c.run_end-next.ensures (sym c.if-not-is_plain.ensures)
 
 pub returns : goal.returns
 returns c =

@@ -7,9 +7,9 @@ use Rattle.hoa_tokens.proofs.scan.token_at.Goals as goal
 pub returns-then-place-text : goal.returns-then-place-text
 returns-then-place-text c = Stands.ended c.if-place-text.true
 
-pub returns-in-default : goal.returns-in-default
-returns-in-default c =
-    Stands.nothing (omega arith) (none_begins c.args.text.now c.args.place (sym c.if-is-letter.ensures) (sym c.if-is-digit.ensures) c.if-b-eq34.false c.in-default.ensures)
+pub returns-in_default : goal.returns-in_default
+returns-in_default c =
+    Stands.nothing (omega arith) (none_begins c.args.text.now c.args.place (sym c.if-is_letter.ensures) (sym c.if-is_digit.ensures) c.if-b-eq34.false c.in_default.ensures)
 
 pub returns : goal.returns
 returns c =

@@ -6,7 +6,7 @@ use Rattle.rankings.proofs.raising.rank_states.Goals as goal
 pub settle-requires : goal.settle-requires
 settle-requires g c =
     let A = g.A.Automaton.meaning c.args.automaton.now in
-    first-forced A (g.A.Automaton.sound c.args.automaton.now) c.place-starts.new.ranks (omega arith) c.place-starts.ensures
+    first-forced A (g.A.Automaton.sound c.args.automaton.now) c.place_starts.new.ranks (omega arith) c.place_starts.ensures
 
 pub returns : goal.returns
 returns g c =
@@ -15,8 +15,8 @@ returns g c =
     let forced = c.settle.ensures.forced in
     record {
       settled = λ yes.
-          record { forced = forced; low = subst (λ n. AllLow n ranks) forced.long (c.are-low.ensures.low yes); met = c.settle.ensures.met };
+          record { forced = forced; low = subst (λ n. AllLow n ranks) forced.long (c.are_low.ensures.low yes); met = c.settle.ensures.met };
       lasso = λ no.
           too_high_lasso A (g.A.Automaton.sound c.args.automaton.now) ranks forced
-          (subst (λ n. TooHigh n ranks) forced.long (c.are-low.ensures.high no));
+          (subst (λ n. TooHigh n ranks) forced.long (c.are_low.ensures.high no));
     }

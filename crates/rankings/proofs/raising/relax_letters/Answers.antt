@@ -7,9 +7,9 @@ use Rattle.rankings.proofs.raising.relax_letters.Goals.{then-relax-by, else-rela
 pub loop-letter-preserved : goal.loop-letter-preserved
 loop-letter-preserved g c =
     let A = g.A.Automaton.meaning c.args.automaton.now in
-    elim c.if-relax-by.branch [
-      | then-relax-by w ↦ rw w.changed-is (changed_swept A (λ ranks. MetBy A ranks c.args.s) c.args.ranks.now c.loop-letter.ranks c.relax-by.new.ranks c.loop-letter.changed c.loop-letter.letter _ c.loop-letter.invariant w.if-relax-by.ensures.risen)
-      | else-relax-by w ↦ rw w.changed-is (kept_swept_next A (λ ranks. MetBy A ranks c.args.s) c.args.ranks.now c.loop-letter.ranks c.relax-by.new.ranks c.loop-letter.changed c.loop-letter.letter c.loop-letter.invariant w.if-relax-by.ensures.risen (w.if-relax-by.ensures.met refl))
+    elim c.if-relax_by.branch [
+      | then-relax-by w ↦ rw w.changed-is (changed_swept A (λ ranks. MetBy A ranks c.args.s) c.args.ranks.now c.loop-letter.ranks c.relax_by.new.ranks c.loop-letter.changed c.loop-letter.letter _ c.loop-letter.invariant w.if-relax_by.ensures.risen)
+      | else-relax-by w ↦ rw w.changed-is (kept_swept_next A (λ ranks. MetBy A ranks c.args.s) c.args.ranks.now c.loop-letter.ranks c.relax_by.new.ranks c.loop-letter.changed c.loop-letter.letter c.loop-letter.invariant w.if-relax_by.ensures.risen (w.if-relax_by.ensures.met refl))
     ]
 
 pub returns : goal.returns

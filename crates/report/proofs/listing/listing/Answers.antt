@@ -21,7 +21,7 @@ returns-in-End c =
     let sofar = c.loop-found.invariant.1 in (
       _,
       grown_end t.token text 0 from t.place t.next sofar.0 sofar.2 c.in-End.is (unclipped (λ i. Scanned text i (found (Ok t))) text from c.loop-found.invariant.0 c.in-Ok.ensures.scanned),
-      lines_added _ _ _ sofar.0 (found (Ok t)) sofar.1 (c.as-slice.ensures.value ∙ c.in-ok-line.ensures) c.in-ok-extend-from-slice.ensures.items,
+      lines_added _ _ _ sofar.0 (found (Ok t)) sofar.1 (c.as_slice.ensures.value ∙ c.in_ok-line.ensures) c.in_ok-extend_from_slice.ensures.items,
     )
 
 pub loop-found-preserved : goal.loop-found-preserved
@@ -30,6 +30,6 @@ loop-found-preserved c =
     let from = c.loop-found.from in
     let t = c.in-Ok.found in
     let sofar = c.loop-found.invariant.1 in (
-      (ahead_of t.token text from t.place t.next c.in-default.not-End (unclipped (λ i. Ahead text i (found (Ok t))) text from c.loop-found.invariant.0 c.in-Ok.ensures.ahead)).1,
-      (_, lines_added _ _ _ sofar.0 (found (Ok t)) sofar.1 (c.as-slice.ensures.value ∙ c.in-ok-line.ensures) c.in-ok-extend-from-slice.ensures.items, grown_more t.token text 0 from t.place t.next sofar.0 sofar.2 c.in-default.not-End (unclipped (λ i. Scanned text i (found (Ok t))) text from c.loop-found.invariant.0 c.in-Ok.ensures.scanned)),
+      (ahead_of t.token text from t.place t.next c.in_default.not-End (unclipped (λ i. Ahead text i (found (Ok t))) text from c.loop-found.invariant.0 c.in-Ok.ensures.ahead)).1,
+      (_, lines_added _ _ _ sofar.0 (found (Ok t)) sofar.1 (c.as_slice.ensures.value ∙ c.in_ok-line.ensures) c.in_ok-extend_from_slice.ensures.items, grown_more t.token text 0 from t.place t.next sofar.0 sofar.2 c.in_default.not-End (unclipped (λ i. Scanned text i (found (Ok t))) text from c.loop-found.invariant.0 c.in-Ok.ensures.scanned)),
     )

@@ -9,4 +9,4 @@ use Rattle.hoa_labels.proofs.letters.Signals.letters_with.Goals as goal
 pub returns : goal.returns
 returns c =
     let with = on c.args.signal in
-    subst (Means c.args.self.count with) (sym c.both.ensures) (means_and c.args.self.count c.all-letters.result c.with-on.result (λ a. true) with c.all-letters.ensures most_signals c.args.self.few (subst (Means most_signals with) (sym c.with-on.ensures) (means_set most_signals with)))
+    subst (Means c.args.self.count with) (sym c.both.ensures) (means_and c.args.self.count c.all_letters.result c.with_on.result (λ a. true) with c.all_letters.ensures most_signals c.args.self.few (subst (Means most_signals with) (sym c.with_on.ensures) (means_set most_signals with)))

@@ -9,17 +9,17 @@ bounds-self-at c = cell_inside c.args.self.now.states c.args.s c.args.t c.args.s
 pub bounds-self-at-2 : goal.bounds-self-at-2
 bounds-self-at-2 c = cell_inside c.args.self.now.states c.args.s c.args.t c.args.self.now.few (omega arith) (omega arith)
 
-pub invariant-of-self : goal.invariant-of-self
-invariant-of-self c =
+pub invariant_of-self : goal.invariant_of-self
+invariant_of-self c =
     let x = c.args.self.now in
-    let letters = steps_added_in x.states x.signals c.args.s c.args.letters c.args.t _ x.cells (omega arith) x.few (omega arith) (omega arith) c.all-letters.ensures x.letters in
-    let rest = steps_added_rest x.states x.signals c.args.s c.args.letters c.args.t _ x.cells (omega arith) x.few (omega arith) (omega arith) c.all-letters.ensures x.rest in
+    let letters = steps_added_in x.states x.signals c.args.s c.args.letters c.args.t _ x.cells (omega arith) x.few (omega arith) (omega arith) c.all_letters.ensures x.letters in
+    let rest = steps_added_rest x.states x.signals c.args.s c.args.letters c.args.t _ x.cells (omega arith) x.few (omega arith) (omega arith) c.all_letters.ensures x.rest in
     (x.few, (x.narrow, (x.starts_in, (x.goods_in, (letters, (rest, tt))))))
 
 pub returns : goal.returns
 returns c =
     let x = c.args.self.now in
     record {
-      steps = steps_added x.states x.signals c.args.s c.args.letters c.args.t _ x.cells (omega arith) x.few (omega arith) (omega arith) c.all-letters.ensures;
+      steps = steps_added x.states x.signals c.args.s c.args.letters c.args.t _ x.cells (omega arith) x.few (omega arith) (omega arith) c.all_letters.ensures;
       same = (refl, refl, refl, refl);
     }

@@ -5,7 +5,7 @@ use Rattle.tables.specs.Cells.{table_cells}
 use Rattle.tables.proofs.Added.{zero_everywhere}
 use Rattle.tables.proofs.draft.Draft.new.Goals as goal
 
-pub invariant-of-result : goal.invariant-of-result
-invariant-of-result c =
+pub invariant_of-result : goal.invariant_of-result
+invariant_of-result c =
     let none = pow_pos c.args.states in
     (omega arith, (omega arith, (none, (none, ((λ k. rw (zero_everywhere table_cells k) (pow_pos (2 ^ c.args.signals))), ((λ k past. zero_everywhere table_cells k), tt))))))

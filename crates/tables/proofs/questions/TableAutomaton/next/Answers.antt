@@ -25,5 +25,5 @@ bounds-self-s c =
     let x = c.args.self.now in
     omega (arith, x.room, digits_lt c.if-s-self.false c.loop-t-test.true)
 
-pub overflow-shr-cell : goal.overflow-shr-cell
-overflow-shr-cell c = omega (arith, letter_count c.args.self.now.signals c.args.self.now.narrow)
+pub overflow_shr-cell : goal.overflow_shr-cell
+overflow_shr-cell c = omega (arith, letter_count c.args.self.now.signals c.args.self.now.narrow)
