@@ -14,7 +14,7 @@ invariant_of-self c =
     let x = c.args.self.now in
     let letters = steps_added_in x.states x.signals c.args.s c.args.letters c.args.t _ x.cells (omega arith) x.few (omega arith) (omega arith) c.all_letters.ensures x.letters in
     let rest = steps_added_rest x.states x.signals c.args.s c.args.letters c.args.t _ x.cells (omega arith) x.few (omega arith) (omega arith) c.all_letters.ensures x.rest in
-    (x.few, (x.narrow, (x.starts_in, (x.goods_in, (letters, (rest, tt))))))
+    record { few = x.few; narrow = x.narrow; starts_in = x.starts_in; goods_in = x.goods_in; letters = letters; rest = rest }
 
 pub returns : goal.returns
 returns c =

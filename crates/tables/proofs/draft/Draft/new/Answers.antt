@@ -8,4 +8,11 @@ use Rattle.tables.proofs.draft.Draft.new.Goals as goal
 pub invariant_of-result : goal.invariant_of-result
 invariant_of-result c =
     let none = pow_pos c.args.states in
-    (omega arith, (omega arith, (none, (none, ((λ k. rw (zero_everywhere table_cells k) (pow_pos (2 ^ c.args.signals))), ((λ k past. zero_everywhere table_cells k), tt))))))
+    record {
+      few = omega arith;
+      narrow = omega arith;
+      starts_in = none;
+      goods_in = none;
+      letters = λ k. rw (zero_everywhere table_cells k) (pow_pos (2 ^ c.args.signals));
+      rest = λ k past. zero_everywhere table_cells k;
+    }
