@@ -1,6 +1,6 @@
 use Rattle.std.proofs.Common.{T, sym, subst, arith}
 use Rattle.emptiness.proofs.Starting.{starts_none, start_more, start_skip, starts_all}
-use Rattle.emptiness.proofs.breadth.begin_at_starts.Goals.{then-is-start, else-is-start}
+use Rattle.emptiness.proofs.breadth.begin_at_starts.Goals.{then-is_start, else-is_start}
 use Rattle.emptiness.proofs.breadth.begin_at_starts.Goals as goal
 
 pub loop-s-init : goal.loop-s-init
@@ -11,10 +11,10 @@ loop-s-preserved g c =
     let A = g.A.Automaton.meaning c.args.automaton.now in
     let is = c.states-s-end.ensures.is in
     elim c.if-is_start.branch [
-      | then-is-start w ↦
+      | then-is_start w ↦
           rw (w.distance-is, w.queue-is, w.end-is)
           (start_more A c.loop-s.distance c.loop-s.queue c.loop-s.end c.loop-s.s c.loop-s.invariant (omega arith) (subst T w.if-is_start.ensures.is tt))
-      | else-is-start w ↦
+      | else-is_start w ↦
           rw (w.distance-is, w.queue-is, w.end-is)
           (start_skip A c.loop-s.distance c.loop-s.queue c.loop-s.end c.loop-s.s c.loop-s.invariant (omega arith) (λ start. subst T (sym w.if-is_start.ensures.is) start))
     ]
