@@ -46,7 +46,7 @@ returns-then-distance-t g c =
 pub returns-in-Some : goal.returns-in-Some
 returns-in-Some g c =
     return_found (g.A.Automaton.meaning c.args.automaton.now) c.args.g c.loop-head.distance c.loop-head.parent c.loop-head.queue c.loop-head.head c.loop-head.end c.loop-head.invariant c.loop-head-test.true
-    c.args.bound c.in-Some.-letter c.if-distance-t.false c.in-Some.ensures
+    c.args.bound c.in-Some._letter c.if-distance-t.false c.in-Some.ensures
 
 pub returns : goal.returns
 returns g c =
