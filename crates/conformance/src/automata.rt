@@ -14,7 +14,7 @@ pub enum Mark {
 
 /// Whether a number is a state with a mark.
 fn has_mark<A: Automaton>(automaton: &A, mark: Mark, s: u32) -> bool
-    ensures { result ≡ is_marked_at (meaning automaton.now) mark s }
+    ensures { result ≡ is_marked_at (A.Automaton.meaning automaton.now) mark s }
 {
     match mark {
         Mark::Start => automaton.is_start(s),
@@ -35,7 +35,7 @@ fn listed_if(heap: Global, yes: bool, s: u32) -> Result<Vec<u8>, AllocError>
 
 /// The states that have a mark.
 fn marked<A: Automaton>(heap: Global, automaton: &A, mark: Mark) -> Result<Vec<u8>, AllocError>
-    ensures { IfOk result (λ v. v.items ≡ marked_text (meaning automaton.now) mark) }
+    ensures { IfOk result (λ v. v.items ≡ marked_text (A.Automaton.meaning automaton.now) mark) }
 {
     let mut text = Vec::new(heap);
     let states = automaton.states();
@@ -48,7 +48,7 @@ fn marked<A: Automaton>(heap: Global, automaton: &A, mark: Mark) -> Result<Vec<u
 
 /// Whether a step leads from `s` to `t` by the letter `a`.
 fn leads<A: Automaton>(automaton: &A, s: u32, a: u32, t: u32) -> bool
-    ensures { result ≡ (meaning automaton.now).step s a t }
+    ensures { result ≡ (A.Automaton.meaning automaton.now).step s a t }
 {
     let Some(found) = automaton.next(s, a, t) else {
         return false;
@@ -75,7 +75,7 @@ fn letters_over(signals: u32) -> u32
 
 /// The letters by which a step leads from `s` to `t`: bit a is letter a.
 fn step_letters<A: Automaton>(automaton: &A, s: u32, t: u32) -> u32
-    ensures is { result ≡ letters_of_step (meaning automaton.now) s t }
+    ensures is { result ≡ letters_of_step (A.Automaton.meaning automaton.now) s t }
     ensures few { result < 65536 }
 {
     let mut set = 0;
@@ -121,7 +121,7 @@ fn step_text(heap: Global, s: u32, t: u32, letters: u32) -> Result<Vec<u8>, Allo
 
 /// The steps from one state.
 fn row<A: Automaton>(heap: Global, automaton: &A, s: u32) -> Result<Vec<u8>, AllocError>
-    ensures { IfOk result (λ v. v.items ≡ row_text (meaning automaton.now) s) }
+    ensures { IfOk result (λ v. v.items ≡ row_text (A.Automaton.meaning automaton.now) s) }
 {
     let mut text = Vec::new(heap);
     let states = automaton.states();
@@ -134,7 +134,7 @@ fn row<A: Automaton>(heap: Global, automaton: &A, s: u32) -> Result<Vec<u8>, All
 
 /// The steps from all states.
 fn steps<A: Automaton>(heap: Global, automaton: &A) -> Result<Vec<u8>, AllocError>
-    ensures { IfOk result (λ v. v.items ≡ steps_text (meaning automaton.now)) }
+    ensures { IfOk result (λ v. v.items ≡ steps_text (A.Automaton.meaning automaton.now)) }
 {
     let mut text = Vec::new(heap);
     let states = automaton.states();
@@ -150,7 +150,7 @@ pub(crate) fn automaton_text<A: Automaton>(
     heap: Global,
     automaton: &A,
 ) -> Result<Vec<u8>, AllocError>
-    ensures { IfOk result (λ v. v.items ≡ text_of_automaton (meaning automaton.now)) }
+    ensures { IfOk result (λ v. v.items ≡ text_of_automaton (A.Automaton.meaning automaton.now)) }
 {
     let n = automaton.states();
     let p = automaton.signals();
