@@ -1,5 +1,5 @@
 -- One more number: what is written of it is added, and its letter joins the set.
-use Rattle.std.proofs.Common.{◌≡◌, ℕ, zero, suc, ◌+◌, ◌^◌, ◌<◌, ◌≤◌, Bool, true, false, cond, List, ◌++◌, ◌∙◌, append_assoc, pow-suc, add-one, arith, lit<, pow_pos, pow_mono}
+use Rattle.std.proofs.Common.{◌≡◌, ℕ, zero, suc, ◌+◌, ◌^◌, ◌<◌, ◌≤◌, Bool, true, false, cond, List, ◌++◌, ◌∙◌, append_assoc, pow-suc, add-one, arith, lit<, pow_mono}
 use Rattle.conformance.specs.Lines.{each, letter_set}
 
 pub each_more : (write : ℕ → List ℕ) (n : ℕ) (was item joined : List ℕ) → was ≡ each write n → item ≡ write n → joined ≡ was ++ item → joined ≡ each write (n + 1)

@@ -1,5 +1,5 @@
 -- Promise. What a line of the table means, and which line answers it.
-use Rattle.std.specs.Prelude.{◌≡◌, ℕ, zero, suc, ◌+◌, ◌-◌, ◌/◌, ◌%◌, ◌^◌, min, Bool, cond, List, [], ◌∷◌, ◌++◌, length, replicate, codes, decimal, fold, ◌==◌, nat_lt}
+use Rattle.std.specs.Prelude.{ℕ, zero, suc, ◌+◌, ◌-◌, ◌/◌, ◌%◌, ◌^◌, min, Bool, cond, List, [], ◌∷◌, ◌++◌, length, replicate, codes, decimal, fold, ◌==◌, nat_lt}
 use Rattle.omega.specs.Automata.{Meaning}
 use Rattle.tables.specs.Refusals.{lender_number}
 use Rattle.hoa_tokens.specs.Numbers.{refusal_number, layer_number}

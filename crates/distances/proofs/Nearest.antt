@@ -1,6 +1,6 @@
 -- What the distances of a search say of all paths, and how a search begins in lists.
-use Rattle.std.proofs.Common.{◌≡◌, ℕ, zero, suc, ◌+◌, ◌<◌, ◌≤◌, T, ◌≢◌, ◌⊎◌, List, length, set, sym, refl, ap, ◌∙◌, subst, inl, inr, arith, length-set, get_or-set_other, get_or-set_same}
-use native.Mathlib.Decide.{ℕ_discrete, dec_lt}
+use Rattle.std.proofs.Common.{◌≡◌, ℕ, zero, suc, ◌+◌, ◌<◌, ◌≤◌, T, ◌≢◌, ◌⊎◌, List, length, set, sym, ap, subst, inl, inr, arith, length-set, get_or-set_other, get_or-set_same}
+use native.Mathlib.Decide.{dec_lt}
 use Rattle.omega.specs.Automata.{Meaning}
 use Rattle.omega.specs.Lassos.{Lasso}
 use Rattle.omega.proofs.Paths.{Path}

@@ -1,6 +1,6 @@
 -- A queue in which each state stands once has room for a state that it lacks.
 use Rattle.std.proofs.Common.{◌≡◌, ℕ, ◌+◌, ◌<◌, ◌≤◌, ◌≢◌, ◌⊎◌, sym, ap, ◌∙◌, inl, inr, arith}
-use native.Mathlib.Decide.{ℕ_discrete, dec_le}
+use native.Mathlib.Decide.{dec_le}
 use Rattle.omega.specs.Automata.{Meaning}
 use Rattle.omega.proofs.Pigeonhole.{pigeonhole}
 use Rattle.omega.proofs.Updates.{put, put_cases}

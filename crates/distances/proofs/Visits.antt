@@ -1,9 +1,9 @@
 -- Visiting the successors of the queue's head, one after another and letter by letter, in lists.
-use Rattle.std.proofs.Common.{◌≡◌, ℕ, ◌+◌, ◌<◌, ◌≤◌, T, ◌≢◌, ◌⊎◌, List, length, set, Some, None, sym, refl, ap, ◌∙◌, subst, inl, inr, arith, length-set, get_or-set_other, get_or-set_same}
+use Rattle.std.proofs.Common.{◌≡◌, ℕ, ◌+◌, ◌<◌, ◌≤◌, T, ◌⊎◌, List, length, set, Some, sym, refl, ap, ◌∙◌, subst, inl, inr, arith, length-set, get_or-set_other, get_or-set_same}
 use native.Mathlib.Decide.{ℕ_discrete}
 use Rattle.omega.specs.Automata.{Meaning, Sound, Lowest, most_states}
-use Rattle.omega.proofs.Successors.{none_left_all_seen, lowest_seen_more}
-use Rattle.distances.specs.Trees.{at, Tree, Searched, Extends, Visited, Room, Reaches}
+use Rattle.omega.proofs.Successors.{lowest_seen_more}
+use Rattle.distances.specs.Trees.{at, Searched, Extends, Visited, Room, Reaches}
 use Rattle.distances.proofs.Queues.{tree_fits, new_fits}
 use Rattle.distances.proofs.Trees.{tree_grows, tree-passes}
 

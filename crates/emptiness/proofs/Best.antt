@@ -1,5 +1,5 @@
 -- The lasso in the strip against every lasso.
-use Rattle.std.proofs.Common.{◌≡◌, ℕ, suc, ◌+◌, ◌-◌, ◌*◌, ◌<◌, ◌≤◌, T, ◌↔◌, List, sym, ap, ◌∙◌, subst, arith}
+use Rattle.std.proofs.Common.{◌≡◌, ℕ, suc, ◌+◌, ◌-◌, ◌*◌, ◌<◌, ◌≤◌, T, ◌↔◌, List, sym, ap, subst, arith}
 use native.Mathlib.Decide.{ℕ_discrete}
 use Rattle.omega.specs.Automata.{Meaning}
 use Rattle.omega.specs.Lassos.{Lasso, SomeLasso}

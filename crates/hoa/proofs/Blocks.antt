@@ -15,9 +15,9 @@ use Rattle.hoa_tokens.specs.Scanning.{Lexeme, word, number, name, mark, end, lex
 use Rattle.hoa_tokens.proofs.Cutting.{grown_end}
 use Rattle.hoa_grammar.specs.Rows.{Row, more, some}
 use Rattle.hoa_grammar.specs.Marking.{kept, broken, breaks_if}
-use Rattle.hoa_grammar.specs.Documents.{Header, Block, Document, alike, block_limit}
+use Rattle.hoa_grammar.specs.Documents.{Header, Block, Document, block_limit}
 use Rattle.hoa_grammar.specs.Verdicts.{fault_at}
-use Rattle.hoa_grammar.specs.Machine.{state, good, edges, blocks, ended, opened, State, due, at, stuck, goes, edges_mark, number_only, slot_step, step, initial, reading, next, verdict}
+use Rattle.hoa_grammar.specs.Machine.{state, good, edges, blocks, ended, opened, due, at, stuck, goes, edges_mark, number_only, slot_step, step, initial, reading, next, verdict}
 use Rattle.hoa_grammar.specs.Reading.{Reached, Refused}
 use Rattle.hoa_grammar.proofs.Stepping.{run_last, reached_stuck}
 use Rattle.hoa.specs.declared.expect.Numeral.{Numeral}

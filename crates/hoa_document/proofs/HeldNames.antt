@@ -1,5 +1,5 @@
 -- The names of a header: those that the reader holds are those that it has read, and one of them in hand is repeated.
-use Rattle.std.proofs.Common.{◌≡◌, ℕ, zero, suc, ◌+◌, ◌-◌, ◌<◌, ◌≤◌, Bool, true, false, ◌||◌, ◌≢◌, List, [], length, set, Decides, Result, sym, refl, ap, ◌∙◌, subst, ⊎_elim, add-one, arith, Bor, MatchResult}
+use Rattle.std.proofs.Common.{◌≡◌, ℕ, zero, suc, ◌+◌, ◌-◌, ◌<◌, ◌≤◌, Bool, true, false, ◌||◌, ◌≢◌, List, length, set, Decides, Result, sym, refl, ap, ◌∙◌, subst, ⊎_elim, add-one, arith, Bor, MatchResult}
 use mathlib.Core.Bool.{or-true}
 use Rattle.std.proofs.lemmas.List.{get_or-set_same, get_or-set_other}
 use Rattle.std.proofs.lemmas.Bool.{cases_eq}

@@ -2,7 +2,7 @@
 use Rattle.std.specs.Prelude.{ℕ, ◌+◌, ◌/◌, ◌%◌, ◌^◌, Bool, true, false, not, ◌&&◌, ◌||◌, List, [], ◌∷◌, ◌++◌, codes, ◌==◌, nat_le}
 use Rattle.hoa_tokens.specs.declared.fault.Refusal.TheVariants.{OutOfRange, TooDeep}
 use Rattle.hoa_tokens.specs.declared.token.Mark.TheVariants.{OpenParen, CloseParen, Not, And, Or}
-use Rattle.hoa_tokens.specs.Scanning.{Lexeme, word, number, mark}
+use Rattle.hoa_tokens.specs.Scanning.{word, number, mark}
 use Rattle.hoa_grammar.specs.Marking.{Limit, kept, Marked, marked, breaks_if}
 
 -- a factor is `t`, `f`, a signal, `!` and a factor, or a label in parentheses; a term is factors joined by `&`, a label terms joined by `|`

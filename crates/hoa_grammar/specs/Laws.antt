@@ -1,5 +1,5 @@
 -- Promise. The laws of reading, over the finds of every text.
-use Rattle.std.specs.Prelude.{◌≡◌, ℕ, ◌⊎◌, List, [], ◌∷◌, ◌++◌}
+use Rattle.std.specs.Prelude.{◌≡◌, ℕ, ◌⊎◌, List}
 use Rattle.hoa_tokens.specs.declared.fault.Fault.{Fault}
 use Rattle.hoa_tokens.specs.Scanning.{Found}
 use Rattle.hoa_tokens.specs.Cuts.{Cut}

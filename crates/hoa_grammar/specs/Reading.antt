@@ -4,7 +4,7 @@ use Rattle.hoa_tokens.specs.declared.fault.Fault.{Fault}
 use Rattle.hoa_tokens.specs.declared.token.Placed.{Placed}
 use Rattle.hoa_tokens.specs.Scanning.{Found, found, Scanned}
 use Rattle.hoa_tokens.specs.Cuts.{Cut}
-use Rattle.hoa_grammar.specs.Machine.{State, initial, Outcome, reading, refused, run}
+use Rattle.hoa_grammar.specs.Machine.{State, initial, reading, refused, run}
 
 -- the tokens before the one in hand lead the machine to the state
 pub record Reached (text : List ℕ) (s : State) (head : Placed) : Type 0 where

@@ -1,5 +1,5 @@
 -- Promise. Rows: lists that grow at their end, so that what stands before an element is a part of the row.
-use Rattle.std.specs.Prelude.{ℕ, ◌+◌, Bool, true, false, ◌||◌}
+use Rattle.std.specs.Prelude.{ℕ, ◌+◌, Bool, false, ◌||◌}
 
 pub data Row (A : Type 0) : Type 0 where
   none : Row A

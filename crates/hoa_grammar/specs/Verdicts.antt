@@ -6,7 +6,7 @@ use Rattle.hoa_tokens.specs.declared.fault.Refusal.TheVariants.{BadByte, BadNumb
 use Rattle.hoa_tokens.specs.declared.fault.Layer.{Layer}
 use Rattle.hoa_tokens.specs.declared.fault.Layer.TheVariants.{Bytes, Grammar, Meaning}
 use Rattle.hoa_tokens.specs.Scanning.{Lexeme, Found, token, fault}
-use Rattle.hoa_grammar.specs.Marking.{Limit, kept, broken, Marked, marked, tokens_of, AllKept}
+use Rattle.hoa_grammar.specs.Marking.{Limit, broken, Marked, marked, tokens_of, AllKept}
 use Rattle.hoa_grammar.specs.Documents.{Document, spell}
 
 -- the finds are these tokens, at whatever places

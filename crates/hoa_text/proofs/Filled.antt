@@ -7,7 +7,7 @@ use Rattle.omega.specs.Tables.{table}
 use Rattle.tables.specs.declared.draft.Draft.{Draft}
 use Rattle.tables.specs.Cells.{table_cells}
 use Rattle.tables.proofs.Added.{cell_inside}
-use Rattle.hoa_document.specs.Denoting.{Denotes, TextDenotes, draft_meaning}
+use Rattle.hoa_document.specs.Denoting.{TextDenotes, draft_meaning}
 use Rattle.hoa_text.specs.Reading.{CellsSet}
 
 -- its numbers are the draft's, and so are its first cells

@@ -1,7 +1,7 @@
 -- The names that an array holds, one by one.
 use Rattle.std.proofs.Common.{◌≡◌, ℕ, zero, suc, ◌<◌, List, sym, refl, ap, ◌∙◌, subst, inl, inr, ⊎_elim, arith, Bor}
 use Rattle.std.proofs.lemmas.Bool.{cases_eq}
-use Rattle.hoa_grammar.specs.Rows.{Row, none, more, size}
+use Rattle.hoa_grammar.specs.Rows.{Row, more, size}
 use Rattle.hoa_document.specs.Naming.{name_at, first_names}
 use Rattle.hoa_document.proofs.HeldNames.{size_first}
 use Rattle.hoa_text.specs.Naming.{IsName}

@@ -7,7 +7,7 @@ use Rattle.hoa_tokens.specs.Scanning.{Lexeme, word, number, name, mark, end, Fou
 use Rattle.hoa_tokens.specs.Cuts.{Behind, Cut}
 use Rattle.hoa_grammar.specs.Rows.{Row, none, more, size}
 use Rattle.hoa_grammar.specs.Marking.{kept, Marked, marked, tokens_of}
-use Rattle.hoa_grammar.specs.Documents.{Document, signals_limit, spell, spell_front, spell_names, spell_header, spell_blocks}
+use Rattle.hoa_grammar.specs.Documents.{Document, signals_limit, spell, spell_front, spell_names}
 use Rattle.hoa_grammar.specs.Verdicts.{Reads}
 use Rattle.hoa_document.specs.Denoting.{TextWrites}
 use Rattle.hoa_text.specs.Naming.{IsName, NameGiven}

@@ -1,5 +1,5 @@
 -- What the scanner answers at a place is what stands there, kind by kind.
-use Rattle.std.proofs.Common.{◌≡◌, ℕ, ◌+◌, ◌-◌, ◌<◌, Bool, true, false, cond, List, length, get_or, sym, ◌∙◌, subst, arith, length-drop, length-take, get_or-drop, get_or-take}
+use Rattle.std.proofs.Common.{◌≡◌, ℕ, ◌+◌, ◌-◌, ◌<◌, Bool, true, false, cond, List, length, get_or, sym, subst, arith, length-drop, length-take, get_or-drop, get_or-take}
 use Rattle.hoa_tokens.specs.declared.fault.Refusal.TheVariants.{BadByte, BadNumber}
 use Rattle.hoa_tokens.specs.Bytes.{digit, nameable, quote, value, plain}
 use Rattle.hoa_tokens.specs.Items.{Each, Run, span, Kind}

@@ -1,5 +1,5 @@
 -- Which bytes the format knows, and what digits write.
-use Rattle.std.specs.Prelude.{◌≡◌, ℕ, ◌+◌, ◌-◌, ◌*◌, Bool, not, ◌&&◌, ◌||◌, List, length, fold, ◌==◌, ◌≢◌, nat_le, nat_lt, slice_index}
+use Rattle.std.specs.Prelude.{ℕ, ◌+◌, ◌-◌, ◌*◌, Bool, not, ◌&&◌, ◌||◌, List, length, fold, ◌==◌, ◌≢◌, nat_le, nat_lt, slice_index}
 use Rattle.hoa_tokens.specs.declared.class.Class.{Class}
 use Rattle.hoa_tokens.specs.declared.class.Class.TheVariants.{Blank, Word, Digit, Name}
 use Rattle.hoa_tokens.specs.declared.token.Mark.{Mark}

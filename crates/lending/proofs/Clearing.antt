@@ -1,5 +1,5 @@
 -- Words that are made 0 one after another.
-use Rattle.std.proofs.Common.{◌≡◌, ℕ, ◌+◌, ◌<◌, ◌≤◌, List, [], ◌∷◌, ◌++◌, length, take, set, replicate, sym, ap, ◌∙◌, arith}
+use Rattle.std.proofs.Common.{◌≡◌, ℕ, ◌+◌, ◌<◌, List, [], ◌∷◌, ◌++◌, length, take, set, replicate, sym, ap, ◌∙◌, arith}
 use Rattle.std.proofs.lemmas.List.{take_all, take_more_set, replicate_more}
 
 pub cleared_more : (words : List ℕ) (i : ℕ) → i < length words → take i words ≡ replicate i 0 → take (i + 1) (set words i 0) ≡ replicate (i + 1) 0

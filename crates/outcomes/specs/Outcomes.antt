@@ -1,6 +1,5 @@
 -- Promise. Which outcome two files have.
 use Rattle.std.specs.Prelude.{◌≡◌, ℕ, List, Some, None, Option}
-use Rattle.automaton.specs.declared.refusal.PartsRefusal.{PartsRefusal}
 use Rattle.omega.specs.Automata.{Meaning}
 use Rattle.census.specs.declared.census.Census.{Census}
 use Rattle.census.specs.Counts.{Counted}

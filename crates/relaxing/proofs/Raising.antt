@@ -1,11 +1,11 @@
 -- One step of an automaton and the ranks that it changes: each rank is still earned, and there is less room.
-use Rattle.std.proofs.Common.{◌≡◌, ℕ, zero, suc, ◌+◌, ◌-◌, ◌<◌, ◌≤◌, Bool, true, false, cond, T, eqb, ◌≢◌, ◌⊎◌, List, [], ◌∷◌, length, get_or, set, sym, refl, ap, ◌∙◌, subst, inl, inr, true≢false, add-one, arith, length-set, get_or-set_other, get_or-set_same}
+use Rattle.std.proofs.Common.{◌≡◌, ℕ, zero, suc, ◌+◌, ◌-◌, ◌<◌, ◌≤◌, Bool, true, false, T, eqb, ◌≢◌, ◌⊎◌, List, [], ◌∷◌, length, get_or, set, sym, refl, ap, ◌∙◌, subst, inl, inr, true≢false, add-one, arith, length-set, get_or-set_other, get_or-set_same}
 use Rattle.std.proofs.lemmas.Bool.{cases_eq, eq-eqb, ne_eqb, cond-true, cond-false}
 use Rattle.omega.specs.Automata.{Meaning, Sound}
 use Rattle.omega.proofs.Paths.{reachable_on}
 use Rattle.omega.proofs.Climbs.{Climb, climb_before}
 use Rattle.evidence.specs.Strips.{outside}
-use Rattle.relaxing.specs.Rounds.{Inside, Earned, Forced, asked, Met, StepMet, room, rooms, Relaxed, Risen}
+use Rattle.relaxing.specs.Rounds.{Inside, Earned, Forced, asked, StepMet, room, rooms, Relaxed, Risen}
 
 -- the room of an earned rank, and of a state outside
 room_inside_lem : (n v : ℕ) → v ≢ outside → room n v ≡ (n + 1) - v

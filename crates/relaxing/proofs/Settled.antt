@@ -1,5 +1,5 @@
 -- Ranks that no step asks to raise make the least ranking, unless one of them is above the number of states, which shows a lasso.
-use Rattle.std.proofs.Common.{◌≡◌, ℕ, ◌+◌, ◌<◌, ◌≤◌, Bool, true, false, cond, T, ◌≢◌, List, length, get_or, sym, refl, ◌∙◌, subst, arith}
+use Rattle.std.proofs.Common.{◌≡◌, ℕ, ◌<◌, ◌≤◌, Bool, true, false, T, ◌≢◌, List, length, get_or, sym, refl, ◌∙◌, subst, arith}
 use Rattle.omega.specs.Automata.{Meaning, Sound}
 use Rattle.omega.specs.Lassos.{SomeLasso}
 use Rattle.omega.specs.Rankings.{Least}
@@ -7,7 +7,7 @@ use Rattle.omega.proofs.Climbs.{climb_bound, climbed-least}
 use Rattle.evidence.specs.Strips.{rank_at, inside_at, outside}
 use Rattle.evidence.specs.Asking.{Allowed, Ranked}
 use Rattle.evidence.proofs.Ranks.{inside_ranked, ranked_ranking}
-use Rattle.relaxing.specs.Rounds.{Inside, Earned, Forced, rank_at_first, Met, MetFrom, TooHigh, AllLow}
+use Rattle.relaxing.specs.Rounds.{Earned, Forced, rank_at_first, Met, MetFrom, TooHigh, AllLow}
 
 -- a rank above the number of states shows a lasso
 pub too_high_lasso : (A : Meaning) → Sound A → (ranks : List ℕ) → Forced A ranks → TooHigh A.states ranks → SomeLasso A

@@ -1,7 +1,7 @@
 -- Ranks that rise one time after another have risen, and what was done stays done where nothing changed.
-use Rattle.std.proofs.Common.{◌≡◌, ℕ, ◌+◌, ◌<◌, ◌≤◌, Bool, true, false, List, length, get_or, sym, refl, ap, ◌∙◌, subst, true≢false, arith, below_more}
+use Rattle.std.proofs.Common.{ℕ, ◌+◌, ◌<◌, ◌≤◌, Bool, true, false, List, sym, refl, ap, ◌∙◌, subst, true≢false, arith, below_more}
 use Rattle.omega.specs.Automata.{Meaning}
-use Rattle.relaxing.specs.Rounds.{Forced, Inside, rooms, Risen, Swept}
+use Rattle.relaxing.specs.Rounds.{Forced, rooms, Risen, Swept}
 
 -- before any step
 pub nothing_risen : (A : Meaning) (ranks : List ℕ) → Forced A ranks → Risen A ranks ranks false

@@ -1,5 +1,5 @@
 -- Each state is counted where it passes.
-use Rattle.std.proofs.Common.{ℕ, ◌+◌, cond, sym, ap, ◌∙◌, arith}
+use Rattle.std.proofs.Common.{cond, ap, ◌∙◌, arith}
 use Rattle.census.proofs.Tallies.{tally_more, one_at_most}
 use Rattle.census.proofs.counting.count_states.Goals as goal
 

@@ -1,4 +1,4 @@
-use Rattle.std.proofs.Common.{◌≡◌, ℕ, ◌+◌, ◌^◌, ◌≤◌, Bool, cond, ap, ◌∙◌, arith}
+use Rattle.std.proofs.Common.{◌≡◌, ℕ, ◌+◌, ◌^◌, Bool, cond, ap, ◌∙◌, arith}
 use Rattle.conformance.specs.Lines.{letter_set}
 use Rattle.conformance.proofs.Listing.{letter_set_more, letter_set_few}
 use Rattle.conformance.proofs.automata.step_letters.Given as given

@@ -1,4 +1,4 @@
-use Rattle.std.proofs.Common.{◌≡◌, ℕ, ◌+◌, ◌-◌, ◌*◌, set, subst, arith}
+use Rattle.std.proofs.Common.{◌≡◌, ◌-◌, subst, arith}
 use Rattle.distances.specs.Trees.{at}
 use Rattle.emptiness.specs.Parts.{TellsPath}
 use Rattle.emptiness.proofs.PathsTold.{telling-begins, parent_fits, telling-more, path-told}

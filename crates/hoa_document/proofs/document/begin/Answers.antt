@@ -1,7 +1,6 @@
 -- The text is too long, or its header refuses it.
 use Rattle.std.proofs.Common.{sym, subst}
 use Rattle.std.proofs.lemmas.Result.{err_from_is_err_and}
-use Rattle.hoa_tokens.specs.declared.fault.Fault.{Fault}
 use Rattle.hoa_document.specs.Denoting.{TextRefused, too_long}
 use Rattle.hoa_document.proofs.Meant.{refused_here}
 use Rattle.hoa_document.proofs.document.begin.Goals as goal

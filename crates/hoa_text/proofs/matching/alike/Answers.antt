@@ -1,5 +1,5 @@
 -- Rows are alike exactly where all their names are.
-use Rattle.std.proofs.Common.{◌≡◌, true, T, sym, subst, arith, below_more}
+use Rattle.std.proofs.Common.{T, sym, subst, arith, below_more}
 use Rattle.hoa_text.proofs.NameRows.{rows_alike, names_alike}
 use Rattle.hoa_text.proofs.matching.alike.Goals as goal
 
