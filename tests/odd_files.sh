@@ -1,7 +1,7 @@
 #!/usr/bin/env bash
 # Runs the program in folders whose files are missing, empty, binary, a folder, or too long, and compares what it prints.
 set -euo pipefail
-program="$(cd "$(dirname "$0")/.." && pwd)/target/bin/certify"
+program="$(bash "$(dirname "$0")/program.sh" certify)"
 room="$(mktemp -d)"
 trap 'rm -rf "$room"' EXIT
 fails=0

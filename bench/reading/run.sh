@@ -4,7 +4,7 @@
 set -euo pipefail
 here="$(cd "$(dirname "$0")" && pwd)"
 cd "$here/../.."
-rt staticlib exports > /dev/null
+(cd crates/exports && rt lib > /dev/null)
 mkdir -p target/bench
-rustc --edition 2024 -O -C panic=abort -o target/bench/reading "$here/harness.rs" -L native=target/staticlib -l static=exports
+rustc --edition 2024 -O -C panic=abort -o target/bench/reading "$here/harness.rs" -L native=crates/exports/out -l static=exports
 exec target/bench/reading "$@"

@@ -21,7 +21,7 @@ only_word : (k : Slot) (f : List ℕ → Step) → ((w : List ℕ) → Lawful k 
 only_word k f on_word x = by_kind_lem (Lawful k) f (λ n. stuck) (λ w. stuck) (λ m. stuck) stuck on_word (λ n. tt) (λ w. tt) (λ m. tt) tt x
 
 only_number : (k : Slot) (f : ℕ → Step) → ((n : ℕ) → Lawful k (number n) (f n)) → (x : Lexeme) → Lawful k x (number_only f x)
-only_number k f onNumber x = by_kind_lem (Lawful k) (λ w. stuck) f (λ w. stuck) (λ m. stuck) stuck (λ w. tt) onNumber (λ w. tt) (λ m. tt) tt x
+only_number k f on_number x = by_kind_lem (Lawful k) (λ w. stuck) f (λ w. stuck) (λ m. stuck) stuck (λ w. tt) on_number (λ w. tt) (λ m. tt) tt x
 
 -- appended parts, joined from the left
 to_left : (xs ys zs : List Marked) → xs ++ (ys ++ zs) ≡ (xs ++ ys) ++ zs

@@ -36,11 +36,11 @@ is_mark_true m n e = same_mark m n (sym (kind_of_sign m) ∙ ap kind_at (eqb-tru
 
 -- what holds for each kind of token holds of the result for a token
 pub by_kind_lem : {A : Type 0} (P : Lexeme → A → Type 0) (f : List ℕ → A) (g : ℕ → A) (h : List ℕ → A) (j : Mark → A) (e : A) → ((w : List ℕ) → P (word w) (f w)) → ((n : ℕ) → P (number n) (g n)) → ((w : List ℕ) → P (name w) (h w)) → ((m : Mark) → P (mark m) (j m)) → P end e → (x : Lexeme) → P x (by_kind f g h j e x)
-by_kind_lem P f g h j e on_word onNumber onName onMark at_end (word w) = on_word w
-by_kind_lem P f g h j e on_word onNumber onName onMark at_end (number n) = onNumber n
-by_kind_lem P f g h j e on_word onNumber onName onMark at_end (name w) = onName w
-by_kind_lem P f g h j e on_word onNumber onName onMark at_end (mark m) = onMark m
-by_kind_lem P f g h j e on_word onNumber onName onMark at_end end = at_end
+by_kind_lem P f g h j e on_word on_number on_name on_mark at_end (word w) = on_word w
+by_kind_lem P f g h j e on_word on_number on_name on_mark at_end (number n) = on_number n
+by_kind_lem P f g h j e on_word on_number on_name on_mark at_end (name w) = on_name w
+by_kind_lem P f g h j e on_word on_number on_name on_mark at_end (mark m) = on_mark m
+by_kind_lem P f g h j e on_word on_number on_name on_mark at_end end = at_end
 
 pub by_word : {A : Type 0} (P : Lexeme → A → Type 0) (w v : List ℕ) (y z : A) → P (word v) y → P (word w) z → P (word w) (cond (alike w v) y z)
 by_word P w v y z g h = cond_both (alike w v) y z (P (word w)) (λ e. subst (λ u. P (word u) y) (sym (alike_true w v e)) g) (λ e. h)

@@ -14,11 +14,11 @@ use Rattle.hoa_grammar.specs.Verdicts.{fault_at}
 
 -- a result for each kind of token
 abbrev pub by_kind : {A : Type 0} → (List ℕ → A) → (ℕ → A) → (List ℕ → A) → (Mark → A) → A → Lexeme → A
-by_kind on_word onNumber onName onMark at_end (word w) = on_word w
-by_kind on_word onNumber onName onMark at_end (number n) = onNumber n
-by_kind on_word onNumber onName onMark at_end (name w) = onName w
-by_kind on_word onNumber onName onMark at_end (mark m) = onMark m
-by_kind on_word onNumber onName onMark at_end end = at_end
+by_kind on_word on_number on_name on_mark at_end (word w) = on_word w
+by_kind on_word on_number on_name on_mark at_end (number n) = on_number n
+by_kind on_word on_number on_name on_mark at_end (name w) = on_name w
+by_kind on_word on_number on_name on_mark at_end (mark m) = on_mark m
+by_kind on_word on_number on_name on_mark at_end end = at_end
 
 abbrev pub is_mark : Mark → Mark → Bool
 is_mark m n = sign m == sign n

@@ -1,6 +1,6 @@
 -- Which bytes of a text make an item, and which item is the longest.
 -- A span of a text goes from the place of its first byte up to the place behind its last.
--- Past the text's end `get_or` gives 0, a byte of no class: so no item reaches past it.
+-- Past the text's end `slice_index` gives 0, a byte of no class: so no item reaches past it.
 use Rattle.std.specs.Prelude.{◌≡◌, ℕ, ◌+◌, ◌-◌, ◌<◌, ◌≤◌, Bool, true, false, ◌⊎◌, List, length, slice_index, slice_range}
 use Rattle.hoa_tokens.specs.declared.class.Class.TheVariants as class
 use Rattle.hoa_tokens.specs.declared.token.Mark.{Mark}

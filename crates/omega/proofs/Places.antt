@@ -50,8 +50,8 @@ module _ (P Q : ℕ → Bool) (w : ℕ) (wide : 0 < w) (g : ℕ) where
             let (row-k, column-k) = parts_pass (P (k / w)) (Q (k % w)) passes in
             ⊎_elim
             (λ earlier. first-row (k / w) (in_later_row none k h passes) earlier row-k)
-            (λ not-Earlier.
-            let from : p * w ≤ k / w * w = mul-le-mul_right w not-Earlier in
+            (λ not_earlier.
+            let from : p * w ≤ k / w * w = mul-le-mul_right w not_earlier in
             first-column (k % w) (omega arith) (place_parts w p q k (omega arith) (omega (arith, div-add-mod' k w)) before).1 column-k)
             (cases_lt (k / w) p),
       )

@@ -16,5 +16,5 @@ module _ (test : ℕ → Bool) (P : ℕ → Type 0) (f : ℕ) (seen : (k : ℕ) 
       ⊎_elim
       (λ before. seen k before passes)
       (λ late.
-      ⊎_elim (λ earlier. absurd (first k late earlier passes)) (λ not-Earlier. let e : t ≡ k = omega arith in subst P e here) (cases_lt k t))
+      ⊎_elim (λ earlier. absurd (first k late earlier passes)) (λ not_earlier. let e : t ≡ k = omega arith in subst P e here) (cases_lt k t))
       (cases_lt k f)
