@@ -2,7 +2,7 @@
 """Respells the definitions and lemmas of this repository: run once, at the top, right after the kit's port.py.
 
 tools/names.txt has a line for each name: as it was, and as it is. Strings stay as they are, and so does prose:
-in comments and documents only names between backticks are turned.
+in comments and documents only names between backticks are turned. docs/PORT.md, which says what was turned, stays as it is.
 """
 import glob
 import pathlib
@@ -29,7 +29,7 @@ def source(text, comment):
 
 
 for path in sorted(glob.glob("crates/*/**/*", recursive=True) + ["README.md"] + glob.glob("docs/**/*.md", recursive=True)):
-    if "/out/" in path or not re.search(r"\.(antt|rt|edit|md)$", path):
+    if "/out/" in path or path == "docs/PORT.md" or not re.search(r"\.(antt|rt|edit|md)$", path):
         continue
     file = pathlib.Path(path)
     old = file.read_text()

@@ -16,15 +16,15 @@ made_answered (Ok v) items line whole is answered = subst (Answered line) (sym i
 made_answered (Err e) items line whole is answered = tt
 
 pub answers_read : {X Y : Type 0} (r : Result X Y) (items : X → List ℕ) (line text name answer : List ℕ) (A : Meaning) → text ≡ text_of line → name ≡ name_of line → answer ≡ text_of_automaton A → TextDenotes text A → Made r items name answer → IfOk r (λ v. Answered line (items v))
-answers_read r items line text name answer A meant named said denotes Line-made =
+answers_read r items line text name answer A meant named said denotes line_made =
     let denoted : TextDenotes (text_of line) A = subst (λ (z : List ℕ). TextDenotes z A) meant denotes in
-    made_answered r items line _ (rw (named, said) at Line-made) (read A denoted)
+    made_answered r items line _ (rw (named, said) at line_made) (read A denoted)
 
 pub answers_refused : {X Y : Type 0} (r : Result X Y) (items : X → List ℕ) (line text name answer : List ℕ) (cells : ℕ) (e : ReadRefusal) → text ≡ text_of line → name ≡ name_of line → cells ≡ lent_cells line → answer ≡ text_of_refusal e → Unread text cells e → Made r items name answer → IfOk r (λ v. Answered line (items v))
-answers_refused r items line text name answer cells e meant named lent said unread Line-made =
-    let unreadText : Unread (text_of line) cells e = subst (λ (z : List ℕ). Unread z cells e) meant unread in
-    let unreadCells : Unread (text_of line) (lent_cells line) e = subst (λ (z : ℕ). Unread (text_of line) z e) lent unreadText in
-    made_answered r items line _ (rw (named, said) at Line-made) (refused e unreadCells)
+answers_refused r items line text name answer cells e meant named lent said unread line_made =
+    let unread_text : Unread (text_of line) cells e = subst (λ (z : List ℕ). Unread z cells e) meant unread in
+    let unread_cells : Unread (text_of line) (lent_cells line) e = subst (λ (z : ℕ). Unread (text_of line) z e) lent unread_text in
+    made_answered r items line _ (rw (named, said) at line_made) (refused e unread_cells)
 
 -- so many cells are lent as the case asks for, if there are so many
 pub lent_cells_lem : (line xs : List ℕ) (cells lent : ℕ) → cells ≡ cells_of line → lent ≡ min cells 4097 → xs ≡ take (lent - 0) (replicate 4097 9) → length xs ≡ lent_cells line

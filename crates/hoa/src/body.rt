@@ -4,7 +4,7 @@ ghost use Rattle.omega.specs.Signals.{bit};
 ghost use Rattle.hoa_tokens.specs.declared.fault.Refusal.TheVariants.{OutOfRange, Repeated};
 ghost use Rattle.hoa_tokens.specs.Scanning.{word, lexeme};
 ghost use Rattle.hoa_grammar.specs.Documents.{Header, Block, Document, most_states};
-ghost use Rattle.hoa_grammar.specs.Machine.{Current, at, state as stateSlot, good as goodSlot, blocks as blocksSlot, edges as edgesSlot};
+ghost use Rattle.hoa_grammar.specs.Machine.{Current, at, state as state_slot, good as good_slot, blocks as blocks_slot, edges as edges_slot};
 ghost use Rattle.hoa_grammar.specs.Reading.{Reached, Refused};
 ghost use Rattle.hoa_grammar.specs.Rows.{Row, size};
 ghost use Rattle.hoa_grammar.specs.Verdicts.{fault_at};
@@ -24,7 +24,7 @@ use tables::Draft;
 /// The letters of an edge, and its target in hand: those of its label, or all.
 fn read_letters<'a>(text: Text<'a>, head: Placed<'a>, signals: Signals) -> Result<Part<'a>, Fault>
     requires { BeginsEdge head }
-    ensures { (cur : Current) → size cur.header.names ≡ signals.count → Stands text.entry.bytes.now (at (edgesSlot cur)) head.entry → MatchResult result (LettersRead text.entry.bytes.now cur signals.count) (Refused text.entry.bytes.now) }
+    ensures { (cur : Current) → size cur.header.names ≡ signals.count → Stands text.entry.bytes.now (at (edges_slot cur)) head.entry → MatchResult result (LettersRead text.entry.bytes.now cur signals.count) (Refused text.entry.bytes.now) }
 {
     if is_mark(&head, Mark::OpenBracket) {
         let behind = text.scan(head.next)?;
@@ -81,7 +81,7 @@ fn read_good<'a>(
     from: u32,
     draft: &mut Draft,
 ) -> Result<Placed<'a>, Fault>
-    ensures { (h : Header) (bs : Row Block) → Drafted h bs draft.old → from < h.states → Reached text.entry.bytes.now (at (goodSlot h bs from)) head.entry → MatchResult result (λ x. (b : Block) × InBlock text.entry.bytes.now h bs b from draft.new x) (Refused text.entry.bytes.now) }
+    ensures { (h : Header) (bs : Row Block) → Drafted h bs draft.old → from < h.states → Reached text.entry.bytes.now (at (good_slot h bs from)) head.entry → MatchResult result (λ x. (b : Block) × InBlock text.entry.bytes.now h bs b from draft.new x) (Refused text.entry.bytes.now) }
 {
     if !is_mark(&head, Mark::OpenBrace) {
         return Ok(head);
@@ -134,7 +134,7 @@ fn read_described<'a>(
     described: u64,
 ) -> Result<Numeral<'a>, Fault>
     requires { states ≤ most_states }
-    ensures read { (h : Header) (bs : Row Block) → h.states ≡ states → Described bs described → Reached text.entry.bytes.now (at (stateSlot h bs)) head.entry → MatchResult result (λ x. Reached text.entry.bytes.now (at (goodSlot h bs x.value)) x.head) (Refused text.entry.bytes.now) }
+    ensures read { (h : Header) (bs : Row Block) → h.states ≡ states → Described bs described → Reached text.entry.bytes.now (at (state_slot h bs)) head.entry → MatchResult result (λ x. Reached text.entry.bytes.now (at (good_slot h bs x.value)) x.head) (Refused text.entry.bytes.now) }
     ensures fresh { IfOk result (λ x. (x.value < states) × (bit x.value described ≡ false)) }
 {
     let value = number(&head)?;
@@ -173,7 +173,7 @@ fn read_blocks<'a>(
 /// The end of the body and of the text.
 fn read_end<'a>(text: Text<'a>, head: Placed<'a>) -> Result<(), Fault>
     requires { lexeme head.token ≡ word (codes "State:") → ⊥ }
-    ensures { (h : Header) (rows : Row Block) → Stands text.entry.bytes.now (at (blocksSlot h rows)) head.entry → MatchResult result (λ _. DocumentRead text.entry.bytes.now (record { header = h; blocks = rows })) (Refused text.entry.bytes.now) }
+    ensures { (h : Header) (rows : Row Block) → Stands text.entry.bytes.now (at (blocks_slot h rows)) head.entry → MatchResult result (λ _. DocumentRead text.entry.bytes.now (record { header = h; blocks = rows })) (Refused text.entry.bytes.now) }
 {
     let last = expect_word(text, head, b"--END--")?;
     let Token::End = last.token else {

@@ -2,7 +2,7 @@
 ghost use Rattle.std.specs.Prelude.{◌≡◌, ℕ, ◌^◌, ◌<◌, ◌≤◌, Bool, List, ◌∷◌, codes, MatchResult};
 ghost use Rattle.hoa_tokens.specs.Scanning.{word, lexeme};
 ghost use Rattle.hoa_grammar.specs.Documents.{most_states, most_signals, alike, infinitely_often};
-ghost use Rattle.hoa_grammar.specs.Machine.{Slot, due, at, starts as startsSlot, names as namesSlot, blocks as blocksSlot, header_of};
+ghost use Rattle.hoa_grammar.specs.Machine.{Slot, due, at, starts as starts_slot, names as names_slot, blocks as blocks_slot, header_of};
 ghost use Rattle.hoa_grammar.specs.Reading.{Reached, Refused};
 ghost use Rattle.hoa_grammar.specs.Rows.{Row, none, size, some};
 ghost use Rattle.hoa.specs.Standing.{Stands};
@@ -36,7 +36,7 @@ pub(crate) struct StateSet<'a> {
 
 /// The number of states, from the text's first token on.
 pub(crate) fn read_states<'a>(text: Text<'a>) -> Result<Numeral<'a>, Fault>
-    ensures { MatchResult result (λ x. (x.value ≤ most_states) × Reached text.entry.bytes.now (at (startsSlot x.value none)) x.head) (Refused text.entry.bytes.now) }
+    ensures { MatchResult result (λ x. (x.value ≤ most_states) × Reached text.entry.bytes.now (at (starts_slot x.value none)) x.head) (Refused text.entry.bytes.now) }
 {
     let head = text.scan(0)?;
     let head = expect_all(
@@ -58,8 +58,8 @@ pub(crate) fn read_starts<'a>(
     states: u32,
 ) -> Result<StateSet<'a>, Fault>
     requires few { states ≤ most_states }
-    requires reached { Reached text.bytes.now (at (startsSlot states none)) head }
-    ensures { MatchResult result (λ x. (row : Row ℕ) × Reached text.entry.bytes.now (at (startsSlot states row)) x.head × InRow x.states row × (x.states < 2 ^ states) × (lexeme x.head.token ≡ word (codes "Start:") → ⊥)) (Refused text.entry.bytes.now) }
+    requires reached { Reached text.bytes.now (at (starts_slot states none)) head }
+    ensures { MatchResult result (λ x. (row : Row ℕ) × Reached text.entry.bytes.now (at (starts_slot states row)) x.head × InRow x.states row × (x.states < 2 ^ states) × (lexeme x.head.token ≡ word (codes "Start:") → ⊥)) (Refused text.entry.bytes.now) }
 {
     let mut starts = 0u64;
     let mut head = head;
@@ -78,7 +78,7 @@ pub(crate) fn read_starts<'a>(
 /// The number of signals behind `AP:`.
 pub(crate) fn read_signals<'a>(text: Text<'a>, head: Placed<'a>) -> Result<Numeral<'a>, Fault>
     requires { lexeme head.token ≡ word (codes "Start:") → ⊥ }
-    ensures { (n : ℕ) (row : Row ℕ) → Reached text.entry.bytes.now (at (startsSlot n row)) head.entry → MatchResult result (λ x. (x.value ≤ most_signals) × Reached text.entry.bytes.now (at (namesSlot n row none x.value)) x.head) (Refused text.entry.bytes.now) }
+    ensures { (n : ℕ) (row : Row ℕ) → Reached text.entry.bytes.now (at (starts_slot n row)) head.entry → MatchResult result (λ x. (x.value ≤ most_signals) × Reached text.entry.bytes.now (at (names_slot n row none x.value)) x.head) (Refused text.entry.bytes.now) }
 {
     let head = expect_word(text, head, b"AP:")?;
     count(text, head, MOST_SIGNALS)
@@ -86,7 +86,7 @@ pub(crate) fn read_signals<'a>(text: Text<'a>, head: Placed<'a>) -> Result<Numer
 
 /// `acc-name: Buchi`, if it is there, and `Acceptance: 1 Inf(0) --BODY--`.
 pub(crate) fn read_acceptance<'a>(text: Text<'a>, head: Placed<'a>) -> Result<Placed<'a>, Fault>
-    ensures { (n : ℕ) (row : Row ℕ) (names : Row (List ℕ)) → Reached text.entry.bytes.now (at (namesSlot n row names 0)) head.entry → MatchResult result (λ h. (told : Bool) × Reached text.entry.bytes.now (at (blocksSlot (header_of n row names told) none)) h) (Refused text.entry.bytes.now) }
+    ensures { (n : ℕ) (row : Row ℕ) (names : Row (List ℕ)) → Reached text.entry.bytes.now (at (names_slot n row names 0)) head.entry → MatchResult result (λ h. (told : Bool) × Reached text.entry.bytes.now (at (blocks_slot (header_of n row names told) none)) h) (Refused text.entry.bytes.now) }
 {
     if is_word(&head, b"acc-name:") {
         let head = text.scan(head.next)?;
@@ -124,7 +124,7 @@ pub(crate) fn read_names<'a>(
     signals: u32,
 ) -> Result<Placed<'a>, Fault>
     requires { signals ≤ most_signals }
-    ensures { (n : ℕ) (row : Row ℕ) → Reached text.entry.bytes.now (at (namesSlot n row none signals)) head.entry → MatchResult result (λ h. (names : Row (List ℕ)) × (size names ≡ signals) × Reached text.entry.bytes.now (at (namesSlot n row names 0)) h) (Refused text.entry.bytes.now) }
+    ensures { (n : ℕ) (row : Row ℕ) → Reached text.entry.bytes.now (at (names_slot n row none signals)) head.entry → MatchResult result (λ h. (names : Row (List ℕ)) × (size names ≡ signals) × Reached text.entry.bytes.now (at (names_slot n row names 0)) h) (Refused text.entry.bytes.now) }
 {
     let mut names: [&[u8]; 4] = [b""; 4];
     let mut head = head;

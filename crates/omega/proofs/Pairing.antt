@@ -76,52 +76,52 @@ module _ (A B : Meaning) (w : Word) (accepted : Accepted (pair A B) w) where
     },
   )
 
-module _ (A B : Meaning) (SA : Sound A) (SB : Sound B) (w : Word) (accA : Accepted A w) (accB : Accepted B w) where
+module _ (A B : Meaning) (SA : Sound A) (SB : Sound B) (w : Word) (acc_a : Accepted A w) (acc_b : Accepted B w) where
   -- whether the second part is waited for at each moment
   awaits : ℕ → Bool
   awaits zero = false
-  awaits (suc i) = turned (awaits i) (A.good (accA.path i)) (B.good (accB.path i))
+  awaits (suc i) = turned (awaits i) (A.good (acc_a.path i)) (B.good (acc_b.path i))
 
-  awaits_law : (i : ℕ) → awaits (i + 1) ≡ turned (awaits i) (A.good (accA.path i)) (B.good (accB.path i))
+  awaits_law : (i : ℕ) → awaits (i + 1) ≡ turned (awaits i) (A.good (acc_a.path i)) (B.good (acc_b.path i))
   unfolding awaits
   awaits_law i = rw add-one refl
 
   joint : ℕ → ℕ
-  joint i = code B.states (accA.path i) (accB.path i) (cond (awaits i) 1 0)
+  joint i = code B.states (acc_a.path i) (acc_b.path i) (cond (awaits i) 1 0)
 
-  joint_left : (i : ℕ) → left B.states (joint i) ≡ accA.path i
+  joint_left : (i : ℕ) → left B.states (joint i) ≡ acc_a.path i
   unfolding joint
-  joint_left i = code_left B.states (accA.path i) (accB.path i) _ (path_below B SB w accB i) (digit_below (awaits i))
+  joint_left i = code_left B.states (acc_a.path i) (acc_b.path i) _ (path_below B SB w acc_b i) (digit_below (awaits i))
 
-  joint_right : (i : ℕ) → right B.states (joint i) ≡ accB.path i
+  joint_right : (i : ℕ) → right B.states (joint i) ≡ acc_b.path i
   unfolding joint
-  joint_right i = code_right B.states (accA.path i) (accB.path i) _ (path_below B SB w accB i) (digit_below (awaits i))
+  joint_right i = code_right B.states (acc_a.path i) (acc_b.path i) _ (path_below B SB w acc_b i) (digit_below (awaits i))
 
   joint_turn : (i : ℕ) → turn (joint i) ≡ awaits i
   unfolding joint
-  joint_turn i = code_turn B.states (accA.path i) (accB.path i) _ (digit_below (awaits i)) ∙ digit_one (awaits i)
+  joint_turn i = code_turn B.states (acc_a.path i) (acc_b.path i) _ (digit_below (awaits i)) ∙ digit_one (awaits i)
 
   joint_below : (i : ℕ) → T (ltb (joint i) (pair A B).states)
   unfolding joint
   joint_below i =
       lt→ltb _ _
-      (code_below A.states B.states (accA.path i) (accB.path i) _ (path_below A SA w accA i) (path_below B SB w accB i) (digit_below (awaits i)))
+      (code_below A.states B.states (acc_a.path i) (acc_b.path i) _ (path_below A SA w acc_a i) (path_below B SB w acc_b i) (digit_below (awaits i)))
 
   joint_begins : T ((pair A B).start (joint 0))
   unfolding awaits
   joint_begins =
       both_pass _ _ (joint_below 0)
-      (simp (joint_left, joint_right, joint_turn) (both_pass _ _ accA.run.begins accB.run.begins))
+      (simp (joint_left, joint_right, joint_turn) (both_pass _ _ acc_a.run.begins acc_b.run.begins))
 
   joint_goes : (i : ℕ) → T ((pair A B).step (joint i) (w i) (joint (i + 1)))
   joint_goes i =
       both_pass _ _ (both_pass _ _ (joint_below i) (joint_below (i + 1)))
       (simp (joint_left, joint_right, joint_turn, awaits_law)
-      (both_pass _ _ (equal_agree _) (both_pass _ _ (accA.run.goes i) (accB.run.goes i))))
+      (both_pass _ _ (equal_agree _) (both_pass _ _ (acc_a.run.goes i) (acc_b.run.goes i))))
 
   joint_often : Often (λ k. (pair A B).good (joint k))
   joint_often m =
-      let (k, late, good) = second_often_good awaits (λ i. A.good (accA.path i)) (λ i. B.good (accB.path i)) awaits_law accA.often accB.often m in
+      let (k, late, good) = second_often_good awaits (λ i. A.good (acc_a.path i)) (λ i. B.good (acc_b.path i)) awaits_law acc_a.often acc_b.often m in
       (k, late, both_pass _ _ (joint_below k) (simp (joint_right, joint_turn) good))
 
   pair_accepts : Accepted (pair A B) w

@@ -19,8 +19,8 @@ turn x = x % 2 == 1
 
 -- the turn after a step: it passes on if the state left, of the part that is waited for, is good
 abbrev pub turned : Bool → Bool → Bool → Bool
-turned false uGood vGood = uGood
-turned true uGood vGood = not vGood
+turned false u_good v_good = u_good
+turned true u_good v_good = not v_good
 
 -- the pair with n states, of which a second part has w
 abbrev pub numbered : ℕ → ℕ → Meaning → Meaning → Meaning

@@ -1,6 +1,6 @@
 -- A strip that passes its tests tells a lasso or a ranking, and what follows for its shape.
 use Rattle.std.proofs.Common.{ℕ, ◌+◌, ◌*◌, ◌^◌, ◌<◌, Bool, ◌&&◌, ◌||◌, T, eqb, ltb, leb, List, [], ◌∷◌, length, inl, inr, ⊎_elim, eqb→eq, ltb→lt, leb→le}
-use Rattle.std.specs.List.{AllByRecursion as All}
+use Rattle.std.specs.List.{AllByRecursion}
 use Rattle.omega.specs.Automata.{Meaning, Sound}
 use Rattle.omega.specs.Words.{SomeWord, SharedWord}
 use Rattle.omega.specs.Rankings.{greatest_rank}
@@ -73,7 +73,7 @@ module _ (A : Meaning) (strip : List ℕ) where
       let within : (s : ℕ) → T (inside s) → s < A.states = λ s in'. ltb→lt s A.states (parts_pass (ltb s A.states) _ in').0 in
       let state : (s : ℕ) → s < A.states → T (given (inside s) (leb (rank_at strip s) greatest_rank)) × T (given (A.start s) (inside s)) =
       λ s low. parts_pass _ _ (below_passes A.states ranked states s low) in
-      let step : (s a t : ℕ) → T (inside s) → T (A.step s a t) → All T (fallen s t) =
+      let step : (s a t : ℕ) → T (inside s) → T (A.step s a t) → AllByRecursion T (fallen s t) =
       λ s a t in' goes.
       let by-letter = below_passes A.states (λ x. below (2 ^ A.signals) (λ b. below A.states (falls x b))) steps s (within s in') in
       let by-target = below_passes (2 ^ A.signals) (λ b. below A.states (falls s b)) by-letter a (sound.letters s a t goes) in

@@ -1,14 +1,14 @@
 -- Tests of many parts: all of a list, one for each number below a bound, and one that is asked only if another passes.
 use Rattle.std.proofs.Common.{◌≡◌, ℕ, zero, suc, ◌<◌, Bool, true, false, not, ◌&&◌, ◌||◌, T, List, [], ◌∷◌, refl, ⊎_elim, arith}
 use Rattle.std.proofs.lemmas.Bool.{cases_lt}
-use Rattle.std.specs.List.{AllByRecursion as All}
+use Rattle.std.specs.List.{AllByRecursion}
 use Rattle.omega.proofs.Tests.{parts_pass}
 
 abbrev pub every : List Bool → Bool
 every [] = true
 every (b ∷ bs) = b && every bs
 
-pub each_passes : (bs : List Bool) → T (every bs) → All T bs
+pub each_passes : (bs : List Bool) → T (every bs) → AllByRecursion T bs
 each_passes [] h = tt
 each_passes (b ∷ bs) h = let (here, rest) = parts_pass b (every bs) h in (here, each_passes bs rest)
 
