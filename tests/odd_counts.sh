@@ -1,22 +1,7 @@
 #!/usr/bin/env bash
-# Runs the program in folders whose files are missing, empty, binary, a folder, or too long, and compares what it prints.
+# Runs `counts` in folders whose files are missing, empty, binary, a folder, or too long, and compares what it prints.
 set -euo pipefail
-program="$(bash "$(dirname "$0")/program.sh" counts)"
-room="$(mktemp -d)"
-trap 'rm -rf "$room"' EXIT
-fails=0
-
-# case NAME EXPECTED: runs the program in the folder NAME; its status must be 0, and what it prints EXPECTED
-case_() {
-    local got
-    if ! got="$(cd "$room/$1" && "$program")"; then
-        echo "$1: the program ended with another status than 0"
-        fails=$((fails + 1))
-    elif [ "$got" != "$2" ]; then
-        printf '%s: expected\n%s\ngot\n%s\n' "$1" "$2" "$got"
-        fails=$((fails + 1))
-    fi
-}
+. "$(dirname "$0")/odd.sh" counts
 
 header='HOA: v1 States: 0 AP: 0 Acceptance: 1 Inf(0) --BODY-- --END--'
 
@@ -65,5 +50,4 @@ case_ huge 'refused sheet 18 61440 1'
 mkdir "$room/full" && { printf '%s' "$header"; head -c 61378 /dev/zero | tr '\0' ' '; } > "$room/full/sheet.hoa" && printf '"' > "$room/full/rule.hoa"
 case_ full 'refused rule 11 0 1'
 
-[ "$fails" = 0 ] || exit 1
-echo "odd files: all as expected"
+all_as_expected
