@@ -1,4 +1,5 @@
 pub mod Numbers
+pub mod Faults
 pub mod Bytes
 pub mod Items
 pub mod Scanning

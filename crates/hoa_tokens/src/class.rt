@@ -28,12 +28,11 @@ pub fn is_digit(b: u8) -> bool
     matches!(b, b'0'..=b'9')
 }
 
-impl Mark {
-    /// The byte of the mark.
-    pub fn sign(self) -> u8
-        ensures { result ≡ sign self }
-    {
-        match self {
+impl From<Mark> for u8 {
+    ghost from_gives = { λ mark b. b ≡ sign mark };
+
+    fn from(mark: Mark) -> u8 {
+        match mark {
             Mark::OpenBracket => b'[',
             Mark::CloseBracket => b']',
             Mark::OpenBrace => b'{',
@@ -44,6 +43,15 @@ impl Mark {
             Mark::And => b'&',
             Mark::Or => b'|',
         }
+    }
+}
+
+impl Mark {
+    /// The byte of the mark.
+    pub fn sign(self) -> u8
+        ensures { result ≡ sign self }
+    {
+        u8::from(self)
     }
 }
 

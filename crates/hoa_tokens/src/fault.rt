@@ -1,6 +1,7 @@
 //! What is wrong with a text: which rule it breaks, at which byte, and in which layer of reading.
 ghost use Rattle.std.specs.Prelude.{◌≡◌};
 ghost use Rattle.hoa_tokens.specs.Numbers.{refusal_number, layer_number};
+ghost use Rattle.hoa_tokens.specs.Faults.{layer_of, fault_at};
 
 /// Why a text is refused. The number of a case is the one that is printed.
 #[derive(Clone, Copy, PartialEq, Eq, Debug)]
@@ -43,11 +44,35 @@ pub struct Fault {
 }
 
 impl Refusal {
+    /// The layer whose rule the text breaks.
+    pub fn layer(self) -> Layer
+        ensures { result ≡ layer_of self }
+    {
+        match self {
+            Refusal::BadByte | Refusal::BadNumber | Refusal::TooLong | Refusal::Unreadable => {
+                Layer::Bytes
+            }
+            Refusal::Unexpected | Refusal::TooDeep => Layer::Grammar,
+            Refusal::TooMany | Refusal::OutOfRange | Refusal::Repeated => Layer::Meaning,
+        }
+    }
+
+    /// The fault of a text that is refused for this at the place.
+    pub fn at(self, place: usize) -> Fault
+        ensures { result ≡ fault_at self place }
+    {
+        Fault {
+            refusal: self,
+            place,
+            layer: self.layer(),
+        }
+    }
+
     /// The number of the case.
     pub fn number(self) -> u8
         ensures { result ≡ refusal_number self }
     {
-        self as u8
+        u8::from(self)
     }
 }
 
@@ -56,6 +81,22 @@ impl Layer {
     pub fn number(self) -> u8
         ensures { result ≡ layer_number self }
     {
-        self as u8
+        u8::from(self)
+    }
+}
+
+impl From<Refusal> for u8 {
+    ghost from_gives = { λ refusal n. n ≡ refusal_number refusal };
+
+    fn from(refusal: Refusal) -> u8 {
+        refusal as u8
+    }
+}
+
+impl From<Layer> for u8 {
+    ghost from_gives = { λ layer n. n ≡ layer_number layer };
+
+    fn from(layer: Layer) -> u8 {
+        layer as u8
     }
 }

@@ -6,7 +6,7 @@ ghost use Rattle.hoa_tokens.specs.Scanning.{found, Stands, Scanned, Ahead, clipp
 ghost use Rattle.hoa_tokens.specs.Steps.{AllDigits, WithColon, closes};
 
 use crate::class::{Class, is_digit, is_letter, mark_of};
-use crate::fault::{Fault, Layer, Refusal};
+use crate::fault::{Fault, Refusal};
 use crate::text::Text;
 use crate::token::{Placed, Token};
 
@@ -83,11 +83,7 @@ fn number_at<'a>(text: &'a [u8], place: usize) -> Result<Placed<'a>, Fault>
     let digits = &text[place..next];
     let n = value_of(digits);
     if !is_plain(digits, n) {
-        return Err(Fault {
-            refusal: Refusal::BadNumber,
-            place,
-            layer: Layer::Bytes,
-        });
+        return Err(Refusal::BadNumber.at(place));
     }
     Ok(Placed {
         token: Token::Number(n),
@@ -113,11 +109,7 @@ fn name_at<'a>(text: &'a [u8], place: usize) -> Result<Placed<'a>, Fault>
     let from = place + 1;
     let end = run_end(text, from, Class::Name);
     if !closes_name(text, from, end) {
-        return Err(Fault {
-            refusal: Refusal::BadByte,
-            place,
-            layer: Layer::Bytes,
-        });
+        return Err(Refusal::BadByte.at(place));
     }
     Ok(Placed {
         token: Token::Name(&text[from..end]),
@@ -148,13 +140,7 @@ fn token_at<'a>(text: &'a [u8], place: usize) -> Result<Placed<'a>, Fault>
     if b == b'"' {
         return name_at(text, place);
     }
-    let Some(mark) = mark_of(b) else {
-        return Err(Fault {
-            refusal: Refusal::BadByte,
-            place,
-            layer: Layer::Bytes,
-        });
-    };
+    let mark = mark_of(b).ok_or(Refusal::BadByte.at(place))?;
     Ok(Placed {
         token: Token::Mark(mark),
         place,

@@ -2,7 +2,7 @@
 ghost use Rattle.std.specs.Result.{MatchResult};
 ghost use Rattle.hoa_tokens.specs.Scanning.{TextTaken, TextTooLong};
 
-use crate::fault::{Fault, Layer, Refusal};
+use crate::fault::{Fault, Refusal};
 
 /// The most bytes that a text may have.
 pub const LONGEST_TEXT: usize = 61_440;
@@ -19,11 +19,7 @@ impl<'a> Text<'a> {
         ensures { MatchResult result (λ t. TextTaken bytes.now t.bytes.now) (TextTooLong bytes.now) }
     {
         if bytes.len() > LONGEST_TEXT {
-            return Err(Fault {
-                refusal: Refusal::TooLong,
-                place: LONGEST_TEXT,
-                layer: Layer::Bytes,
-            });
+            return Err(Refusal::TooLong.at(LONGEST_TEXT));
         }
         Ok(Text { bytes })
     }

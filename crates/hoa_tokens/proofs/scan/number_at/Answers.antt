@@ -9,7 +9,7 @@ value_of-n-requires c = span_digits c.args.text.now c.args.place c.run_end-next.
 
 pub returns-then-not-is_plain : goal.returns-then-not-is_plain
 returns-then-not-is_plain c =
-    number_refused c.args.text.now c.args.place c.run_end-next.result c.requires.begins c.run_end-next.ensures (sym c.if-not-is_plain.ensures)
+    rw c.at.ensures (number_refused c.args.text.now c.args.place c.run_end-next.result c.requires.begins c.run_end-next.ensures (sym c.if-not-is_plain.ensures))
 
 pub returns : goal.returns
 returns c =
