@@ -2,9 +2,8 @@
 use Rattle.std.specs.Prelude.{◌≡◌, ℕ, List, [], ◌∷◌, ◌++◌}
 use Rattle.hoa_tokens.specs.declared.fault.Fault.{Fault}
 use Rattle.hoa_tokens.specs.declared.fault.Refusal.{Refusal}
-use Rattle.hoa_tokens.specs.declared.fault.Refusal.TheVariants.{BadByte, BadNumber, Unexpected, TooMany, OutOfRange, Repeated, TooDeep, TooLong, Unreadable}
-use Rattle.hoa_tokens.specs.declared.fault.Layer.{Layer}
-use Rattle.hoa_tokens.specs.declared.fault.Layer.TheVariants.{Bytes, Grammar, Meaning}
+use Rattle.hoa_tokens.specs.declared.fault.Refusal.TheVariants.{Unexpected}
+pub use Rattle.hoa_tokens.specs.Faults.{layer_of, fault_at}
 use Rattle.hoa_tokens.specs.Scanning.{Lexeme, Found, token, fault}
 use Rattle.hoa_grammar.specs.Marking.{Limit, broken, Marked, marked, tokens_of, AllKept}
 use Rattle.hoa_grammar.specs.Documents.{Document, spell}
@@ -38,21 +37,6 @@ pub record GoesOn (ws : List Lexeme) (x : Lexeme) (limit : Limit) : Type 0 where
   pub back : List Marked
   pub spelled : spell document ≡ front ++ marked x limit ∷ back
   pub tokens : tokens_of front ≡ ws
-
--- the layer of a refusal
-abbrev pub layer_of : Refusal → Layer
-layer_of BadByte = Bytes
-layer_of BadNumber = Bytes
-layer_of Unexpected = Grammar
-layer_of TooMany = Meaning
-layer_of OutOfRange = Meaning
-layer_of Repeated = Meaning
-layer_of TooDeep = Grammar
-layer_of TooLong = Bytes
-layer_of Unreadable = Bytes
-
-abbrev pub fault_at : Refusal → ℕ → Fault
-fault_at r place = record { refusal = r; place = place; layer = layer_of r }
 
 -- why what is found behind the tokens ws is at fault
 pub data Faulty (ws : List Lexeme) : Found → Fault → Type 0 where

@@ -1,5 +1,7 @@
 -- Which bytes the format knows, and what digits write.
-use Rattle.std.specs.Prelude.{ℕ, ◌+◌, ◌-◌, ◌*◌, Bool, not, ◌&&◌, ◌||◌, List, length, fold, ◌==◌, ◌≢◌, nat_le, nat_lt, slice_index}
+use Rattle.std.specs.Prelude.{ℕ, ◌+◌, ◌-◌, ◌*◌, Bool, not, ◌&&◌, ◌||◌, List, length, fold, ◌==◌, ◌≡◌, ◌≢◌, nat_le, nat_lt, slice_index, Result, Ok, Err}
+use Rattle.hoa_tokens.specs.declared.fault.Refusal.{Refusal}
+use Rattle.hoa_tokens.specs.declared.fault.Refusal.TheVariants.{BadByte}
 use Rattle.hoa_tokens.specs.declared.class.Class.{Class}
 use Rattle.hoa_tokens.specs.declared.class.Class.TheVariants.{Blank, Word, Digit, Name}
 use Rattle.hoa_tokens.specs.declared.token.Mark.{Mark}
@@ -63,3 +65,8 @@ plain ds = nat_le (value ds) 9999 && not (nat_lt 1 (length ds) && slice_index ds
 -- the byte is no mark
 abbrev pub NoMark : ℕ → Type 0
 NoMark b = (m : Mark) → b ≢ sign m
+
+-- the byte is read as its mark, or refused
+abbrev pub MarkRead : ℕ → Result Mark Refusal → Type 0
+MarkRead b (Ok m) = b ≡ sign m
+MarkRead b (Err r) = (r ≡ BadByte) × NoMark b

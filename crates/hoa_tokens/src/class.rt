@@ -1,7 +1,8 @@
 //! Classes of bytes.
-ghost use Rattle.std.specs.Prelude.{◌≡◌, MatchOption};
-ghost use Rattle.hoa_tokens.specs.Bytes.{letter, digit, member, sign, NoMark};
+ghost use Rattle.std.specs.Prelude.{◌≡◌};
+ghost use Rattle.hoa_tokens.specs.Bytes.{letter, digit, member, sign, MarkRead};
 
+use crate::fault::Refusal;
 use crate::token::Mark;
 
 /// A class of bytes of which a run is taken.
@@ -55,21 +56,24 @@ impl Mark {
     }
 }
 
-/// The mark that a byte is, if it is one.
-pub fn mark_of(b: u8) -> Option<Mark>
-    ensures { MatchOption result (NoMark b) (λ m. b ≡ sign m) }
-{
-    match b {
-        b'[' => Some(Mark::OpenBracket),
-        b']' => Some(Mark::CloseBracket),
-        b'{' => Some(Mark::OpenBrace),
-        b'}' => Some(Mark::CloseBrace),
-        b'(' => Some(Mark::OpenParen),
-        b')' => Some(Mark::CloseParen),
-        b'!' => Some(Mark::Not),
-        b'&' => Some(Mark::And),
-        b'|' => Some(Mark::Or),
-        _ => None,
+impl TryFrom<u8> for Mark {
+    type Error = Refusal;
+
+    ghost try_from_gives = { MarkRead };
+
+    fn try_from(b: u8) -> Result<Mark, Refusal> {
+        match b {
+            b'[' => Ok(Mark::OpenBracket),
+            b']' => Ok(Mark::CloseBracket),
+            b'{' => Ok(Mark::OpenBrace),
+            b'}' => Ok(Mark::CloseBrace),
+            b'(' => Ok(Mark::OpenParen),
+            b')' => Ok(Mark::CloseParen),
+            b'!' => Ok(Mark::Not),
+            b'&' => Ok(Mark::And),
+            b'|' => Ok(Mark::Or),
+            _ => Err(Refusal::BadByte),
+        }
     }
 }
 

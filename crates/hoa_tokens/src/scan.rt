@@ -5,10 +5,10 @@ ghost use Rattle.hoa_tokens.specs.Items.{Run};
 ghost use Rattle.hoa_tokens.specs.Scanning.{found, Stands, Scanned, Ahead, clipped};
 ghost use Rattle.hoa_tokens.specs.Steps.{AllDigits, WithColon, closes};
 
-use crate::class::{Class, is_digit, is_letter, mark_of};
+use crate::class::{Class, is_digit, is_letter};
 use crate::fault::{Fault, Refusal};
 use crate::text::Text;
-use crate::token::{Placed, Token};
+use crate::token::{Mark, Placed, Token};
 
 /// The greatest number that a text may name.
 const GREATEST_NUMBER: u32 = 9_999;
@@ -140,7 +140,7 @@ fn token_at<'a>(text: &'a [u8], place: usize) -> Result<Placed<'a>, Fault>
     if b == b'"' {
         return name_at(text, place);
     }
-    let mark = mark_of(b).ok_or(Refusal::BadByte.at(place))?;
+    let mark = Mark::try_from(b).map_err(|refusal| refusal.at(place))?;
     Ok(Placed {
         token: Token::Mark(mark),
         place,
