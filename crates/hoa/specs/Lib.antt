@@ -1,4 +1,0 @@
-pub mod Denoting
-pub mod Standing
-pub mod Drafting
-pub mod Naming
