@@ -15,4 +15,4 @@ mod token;
 
 pub use fault::{Fault, Layer, Refusal};
 pub use text::{LONGEST_TEXT, Text};
-pub use token::{Mark, Placed, Token};
+pub use token::{Mark, Placed, Read, Token};

@@ -32,3 +32,10 @@ pub struct Placed<'a> {
     pub place: usize,
     pub next: usize,
 }
+
+/// A value that has been read, and the token behind it.
+#[derive(Clone, Copy, PartialEq, Eq, Debug)]
+pub struct Read<'a, T> {
+    pub value: T,
+    pub head: Placed<'a>,
+}
