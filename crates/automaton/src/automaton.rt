@@ -3,6 +3,12 @@ ghost use Rattle.std.specs.Prelude.{◌≡◌, ◌^◌, ◌≤◌};
 ghost use Rattle.omega.specs.Automata.{Meaning, Sound, Lowest, most_states, most_signals};
 ghost use Rattle.automaton.specs.Questions.{Within};
 
+/// The most states that an automaton may have.
+pub const MOST_STATES: u32 = 65_536;
+
+/// The most signals that an automaton may have.
+pub const MOST_SIGNALS: u32 = 4;
+
 /// What is asked the five questions of a Büchi automaton.
 ///
 /// An implementor gives a meaning, shows that it keeps the limits, and answers each question by it, for any number.
@@ -42,4 +48,13 @@ pub fn letters<A: Automaton>(automaton: &A) -> u32
     ensures few { result ≤ 2 ^ most_signals }
 {
     1 << automaton.signals()
+}
+
+/// Whether a step leads from one state to another by a letter.
+pub fn has_step<A: Automaton>(automaton: &A, s: u32, letter: u32, t: u32) -> bool
+    ensures { result ≡ (A.Automaton.meaning automaton.now).step s letter t }
+{
+    automaton
+        .next(s, letter, t)
+        .is_some_and(|lowest| lowest == t)
 }

@@ -9,9 +9,11 @@ mod refusal;
 mod repeated;
 mod settled;
 mod signal;
+mod watcher;
 
-pub use automaton::{Automaton, letters};
+pub use automaton::{Automaton, MOST_SIGNALS, MOST_STATES, has_step, letters};
 pub use pair::Pair;
 pub use refusal::PartsRefusal;
-pub use repeated::Again;
-pub use settled::Settles;
+pub use repeated::{Again, Repeated};
+pub use settled::{Settled, Settles};
+pub use watcher::{Watch, Watcher};

@@ -7,11 +7,8 @@ ghost use Rattle.omega.proofs.Caching.{cached_sound};
 ghost use Rattle.automaton.specs.Questions.{Within};
 ghost use Rattle.automaton.specs.Parts.{Paired, Unfit};
 
-use crate::automaton::Automaton;
+use crate::automaton::{Automaton, MOST_STATES};
 use crate::refusal::PartsRefusal;
-
-/// The most states that an automaton may have.
-const MOST_STATES: u32 = 65_536;
 
 /// Two automata side by side on one word.
 ///

@@ -15,11 +15,19 @@ pub enum PartsRefusal {
     NoSuchSignal = 34,
 }
 
+impl From<PartsRefusal> for u8 {
+    ghost from_gives = { λ refusal number. number ≡ parts_number refusal };
+
+    fn from(refusal: PartsRefusal) -> u8 {
+        refusal as u8
+    }
+}
+
 impl PartsRefusal {
     /// The number of the case.
     pub fn number(self) -> u8
         ensures { result ≡ parts_number self }
     {
-        self as u8
+        self.into()
     }
 }

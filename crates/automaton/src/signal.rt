@@ -4,17 +4,8 @@ ghost use Rattle.omega.specs.Automata.{most_signals};
 ghost use Rattle.omega.specs.Signals.{bit};
 ghost use Rattle.automaton.specs.Parts.{Watches, Unwatchable};
 
+use crate::automaton::MOST_SIGNALS;
 use crate::refusal::PartsRefusal;
-
-/// The most signals that an automaton may have.
-const MOST_SIGNALS: u32 = 4;
-
-/// The states of an automaton that watches a signal: it starts in one, and the other is good.
-pub(crate) const STATES: u32 = 2;
-
-pub(crate) const START: u32 = 0;
-
-pub(crate) const GOOD: u32 = 1;
 
 /// A signal among at most four.
 #[derive(Clone, Copy)]

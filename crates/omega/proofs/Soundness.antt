@@ -1,11 +1,11 @@
 -- The limits that every automaton keeps hold of the pair, of the two that watch a signal, and of the automaton of a table.
-use Rattle.std.proofs.Common.{ℕ, ◌+◌, ◌*◌, ◌/◌, ◌%◌, ◌^◌, ◌<◌, ◌≤◌, ◌&&◌, T, ltb, List, get_or, ⊎_elim, arith, eqb→eq, pow_mono, rules}
+use Rattle.std.proofs.Common.{ℕ, ◌+◌, ◌*◌, ◌/◌, ◌%◌, ◌^◌, ◌<◌, ◌≤◌, Bool, ◌&&◌, T, ltb, List, get_or, ⊎_elim, arith, eqb→eq, pow_mono, rules}
 use lib.Arith.{digits_lt}
 use Rattle.std.proofs.lemmas.Nat.{pow_pos, div_below}
 use Rattle.std.proofs.lemmas.Bool.{cases_lt}
 use Rattle.omega.specs.Automata.{Meaning, Sound, most_states, most_signals}
 use Rattle.omega.specs.Pairs.{numbered, pair}
-use Rattle.omega.specs.Signals.{bit, again, settles}
+use Rattle.omega.specs.Signals.{bit, watching}
 use Rattle.omega.specs.Tables.{table}
 use Rattle.omega.proofs.Tests.{parts_pass}
 
@@ -15,11 +15,8 @@ numbered_sound n w A B few S = search rules
 pub pair_sound : (A B : Meaning) → A.states * B.states * 2 ≤ most_states → Sound A → Sound (pair A B)
 pair_sound A B few S = numbered_sound (A.states * B.states * 2) B.states A B few S
 
-pub again_sound : (i p : ℕ) → p ≤ most_signals → Sound (again i p)
-again_sound i p narrow = search rules
-
-pub settles_sound : (i p : ℕ) → p ≤ most_signals → Sound (settles i p)
-settles_sound i p narrow = search rules
+pub watching_sound : (leads : Bool → ℕ → ℕ → Bool) (i p : ℕ) → p ≤ most_signals → ((on : Bool) (s t : ℕ) → T (leads on s t) → t < 2) → Sound (watching leads i p)
+watching_sound leads i p narrow enters = search rules
 
 -- a number below 2 ^ n has its bits below n
 pub bit_below : (k n x : ℕ) → x < 2 ^ n → T (bit k x) → k < n

@@ -5,7 +5,7 @@ use lib.Arith.{le→nltb}
 use lib.Dec.{not_T}
 use Rattle.std.proofs.lemmas.Bool.{cases_lt}
 use Rattle.omega.specs.Words.{Word, Over, Often, Seldom, Accepted}
-use Rattle.omega.specs.Signals.{bit, again, settles}
+use Rattle.omega.specs.Signals.{bit, again_leads, settles_leads, again, settles}
 use Rattle.omega.specs.Laws.{AgainAccepts, SettlesAccepts}
 use Rattle.omega.proofs.Tests.{both_pass, parts_pass, one_passes, first_passes, second_passes, digit_below, digit_one, digit_zero}
 
@@ -95,3 +95,10 @@ again_accepts i p w over = (on_often i p w over, again_run i p w over)
 
 pub settles_accepts : (i p : ℕ) → SettlesAccepts i p
 settles_accepts i p w over = (settled i p w over, λ seldom. settles_run i p w over seldom.0 seldom.1)
+
+-- there are two states
+pub again_enters : (on : Bool) (s t : ℕ) → T (again_leads on s t) → t < 2
+again_enters on s t step = search rules
+
+pub settles_enters : (on : Bool) (s t : ℕ) → T (settles_leads on s t) → t < 2
+settles_enters on s t step = search rules

@@ -5,7 +5,7 @@ use Rattle.omega.specs.Words.{Word, Over, Often, Seldom, Accepted, AcceptsBoth, 
 use Rattle.omega.specs.Lassos.{SomeLasso}
 use Rattle.omega.specs.Rankings.{Ranking, SomeLeast}
 use Rattle.omega.specs.Pairs.{pair}
-use Rattle.omega.specs.Signals.{bit, again, settles}
+use Rattle.omega.specs.Signals.{bit, watching, again_leads, settles_leads}
 
 -- a ranking rules out every accepted word
 abbrev pub RankingRefutes : Type 0
@@ -27,10 +27,14 @@ LassoOrLeast = (A : Meaning) → Sound A → SomeLasso A ⊎ SomeLeast A
 abbrev pub PairAcceptsBoth : Type 0
 PairAcceptsBoth = (A B : Meaning) → Sound A → Sound B → AcceptsBoth (pair A B) A B
 
+-- of the automaton that watches signal i of p: it accepts the words in which the moments at which i is on are as `holds` says
+abbrev pub WatchingAccepts : (Bool → ℕ → ℕ → Bool) → ((ℕ → Bool) → Type 0) → ℕ → ℕ → Type 0
+WatchingAccepts leads holds i p = (w : Word) → Over p w → Accepted (watching leads i p) w ↔ holds (λ k. bit i (w k))
+
 -- again i accepts the words in which i is on infinitely often
 abbrev pub AgainAccepts : ℕ → ℕ → Type 0
-AgainAccepts i p = (w : Word) → Over p w → Accepted (again i p) w ↔ Often (λ k. bit i (w k))
+AgainAccepts = WatchingAccepts again_leads Often
 
 -- settles i accepts the words in which i is on only finitely often
 abbrev pub SettlesAccepts : ℕ → ℕ → Type 0
-SettlesAccepts i p = (w : Word) → Over p w → Accepted (settles i p) w ↔ Seldom (λ k. bit i (w k))
+SettlesAccepts = WatchingAccepts settles_leads Seldom
