@@ -2,6 +2,9 @@
 ghost use Rattle.std.specs.Prelude.{◌≡◌, ◌^◌, ◌≤◌};
 ghost use Rattle.omega.specs.Automata.{Meaning, Sound, Lowest, most_states, most_signals};
 ghost use Rattle.automaton.specs.Questions.{Within};
+ghost use Rattle.automaton.specs.Successors.{targets};
+
+use crate::stepping::Successors;
 
 /// The most states that an automaton may have.
 pub const MOST_STATES: u32 = 65_536;
@@ -57,4 +60,11 @@ pub fn has_step<A: Automaton>(automaton: &A, s: u32, letter: u32, t: u32) -> boo
     automaton
         .next(s, letter, t)
         .is_some_and(|lowest| lowest == t)
+}
+
+/// The states to which steps lead from `s` by the letter, lowest first.
+pub fn successors<A: Automaton>(automaton: &A, s: u32, letter: u32) -> Successors<'_, A>
+    ensures { targets (A.Automaton.meaning result.automaton.now) result.state result.letter result.from ≡ targets (A.Automaton.meaning automaton.now) s letter 0 }
+{
+    Successors::new(automaton, s, letter)
 }

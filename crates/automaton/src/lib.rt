@@ -9,11 +9,13 @@ mod refusal;
 mod repeated;
 mod settled;
 mod signal;
+mod stepping;
 mod watcher;
 
-pub use automaton::{Automaton, MOST_SIGNALS, MOST_STATES, has_step, letters};
+pub use automaton::{Automaton, MOST_SIGNALS, MOST_STATES, has_step, letters, successors};
 pub use pair::Pair;
 pub use refusal::PartsRefusal;
 pub use repeated::{Again, Repeated};
 pub use settled::{Settled, Settles};
+pub use stepping::Successors;
 pub use watcher::{Watch, Watcher};
