@@ -1,7 +1,8 @@
--- Promise. The targets that an iterator over the steps by a letter has yet to give.
-use Rattle.std.specs.Prelude.{◌≡◌, ℕ, ◌+◌, Bool, Some, None, Option}
+-- Promise. What an iterator over the targets of the steps by a letter has yet to give.
+use Rattle.std.specs.Prelude.{◌≡◌, ℕ, ◌+◌, ◌≤◌, Bool, Some, None, Option}
 use Rattle.omega.specs.Automata.{Meaning, Lowest}
 use Rattle.automaton.specs.Questions.{Within}
+use Rattle.automaton.specs.declared.stepping.Successors.{Successors}
 
 -- the numbers from `from` on that pass the test, all of which are below `bound`
 pub record Targets : Type 0 where
@@ -18,8 +19,18 @@ abbrev pub above : ℕ → Option ℕ → ℕ
 above from (Some t) = t + 1
 above from None = from
 
--- the lowest target of those in x is given, and those above it are left in y
-pub record GivesLowest (x : Targets) (given : Option ℕ) (y : Targets) : Type 0 where
-  pub lowest : Lowest x.test x.from given
-  pub lands : Within x.bound given
-  pub leaves : y ≡ record { test = x.test; bound = x.bound; from = above x.from given }
+module _ {X : Type 0} (meaning : X → Meaning) where
+  -- what an iterator over an automaton of this meaning has left
+  abbrev pub left : Successors X → Targets
+  left it = targets (meaning it.automaton.now) it.state it.letter it.from
+
+  -- x gives the lowest of what it has left, and then is y, which has those above it left
+  pub record GivesLowest (x : Successors X) (given : Option ℕ) (y : Successors X) : Type 0 where
+    pub lowest : Lowest (left x).test x.from given
+    pub lands : Within (left x).bound given
+    pub leaves : left y ≡ record { test = (left x).test; bound = (left x).bound; from = above x.from given }
+
+  -- an iterator over the targets of s by a has those left that are not below its place
+  pub record IsOver (A : Meaning) (s a : ℕ) (it : Successors X) : Type 0 where
+    pub rest : left it ≡ targets A s a it.from
+    pub inside : it.from ≤ A.states

@@ -2,7 +2,7 @@
 ghost use Rattle.std.specs.Prelude.{◌≡◌, ◌^◌, ◌≤◌};
 ghost use Rattle.omega.specs.Automata.{Meaning, Sound, Lowest, most_states, most_signals};
 ghost use Rattle.automaton.specs.Questions.{Within};
-ghost use Rattle.automaton.specs.Successors.{targets};
+ghost use Rattle.automaton.specs.Successors.{targets, left};
 
 use crate::stepping::Successors;
 
@@ -64,7 +64,7 @@ pub fn has_step<A: Automaton>(automaton: &A, s: u32, letter: u32, t: u32) -> boo
 
 /// The states to which steps lead from `s` by the letter, lowest first.
 pub fn successors<A: Automaton>(automaton: &A, s: u32, letter: u32) -> Successors<'_, A>
-    ensures { targets (A.Automaton.meaning result.automaton.now) result.state result.letter result.from ≡ targets (A.Automaton.meaning automaton.now) s letter 0 }
+    ensures { left A.Automaton.meaning result ≡ targets (A.Automaton.meaning automaton.now) s letter 0 }
 {
     Successors::new(automaton, s, letter)
 }

@@ -1,13 +1,12 @@
 //! The states to which steps lead.
 ghost use Rattle.std.specs.Prelude.{◌≡◌, ◌-◌};
 ghost use Rattle.std.specs.Iterator.{at_most};
-ghost use Rattle.automaton.specs.Successors.{targets, GivesLowest};
 
 use crate::automaton::Automaton;
 
 /// The states to which steps lead from a state by a letter, lowest first.
 #[derive(Drop)]
-pub struct Successors<'a, A: Automaton> {
+pub struct Successors<'a, A> {
     automaton: &'a A,
     state: u32,
     letter: u32,
@@ -15,9 +14,11 @@ pub struct Successors<'a, A: Automaton> {
 }
 
 impl<'a, A: Automaton> Successors<'a, A> {
+    ghost use Rattle.automaton.specs.Successors.{targets, left};
+
     /// The states to which steps lead from `state` by the letter.
     pub(crate) fn new(automaton: &'a A, state: u32, letter: u32) -> Successors<'a, A>
-        ensures { targets (A.Automaton.meaning result.automaton.now) result.state result.letter result.from ≡ targets (A.Automaton.meaning automaton.now) state letter 0 }
+        ensures { left A.Automaton.meaning result ≡ targets (A.Automaton.meaning automaton.now) state letter 0 }
     {
         Successors {
             automaton,
@@ -29,9 +30,11 @@ impl<'a, A: Automaton> Successors<'a, A> {
 }
 
 impl<A: Automaton> Iterator for Successors<'_, A> {
+    ghost use Rattle.automaton.specs.Successors.{GivesLowest};
+
     type Item = u32;
 
-    ghost next_gives = { λ x given y. GivesLowest (targets (A.Automaton.meaning x.automaton.now) x.state x.letter x.from) given (targets (A.Automaton.meaning y.automaton.now) y.state y.letter y.from) };
+    ghost next_gives = { GivesLowest A.Automaton.meaning };
 
     ghost remaining = { λ x. at_most ((A.Automaton.meaning x.automaton.now).states - x.from) };
 

@@ -4,7 +4,7 @@ ghost use Rattle.omega.specs.Automata.{most_states};
 ghost use Rattle.census.specs.Counts.{tally, steps_by, steps_from, steps_of, Counted};
 
 use crate::census::Census;
-use automaton::{Automaton, letters};
+use automaton::{Automaton, letters, successors};
 
 /// 1 for a yes, 0 for a no.
 fn one_if(test: bool) -> u32
@@ -33,13 +33,8 @@ fn count_by<A: Automaton>(automaton: &A, s: u32, letter: u32) -> u32
     ensures few { result ≤ most_states }
 {
     let mut count = 0;
-    let mut from = 0;
-    loop {
-        let Some(t) = automaton.next(s, letter, from) else {
-            break;
-        };
+    for _t in successors(automaton, s, letter) {
         count += 1;
-        from = t + 1;
     }
     count
 }

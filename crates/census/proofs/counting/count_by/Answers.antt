@@ -1,23 +1,24 @@
--- Each answer of `next` is the next target.
+-- Each target is counted.
 use Rattle.std.proofs.Common.{sym, ◌∙◌, arith}
+use Rattle.automaton.proofs.Walks.{over_lowest, over_above, over_more}
 use Rattle.census.proofs.Tallies.{tally_next, tally_none}
 use Rattle.census.proofs.counting.count_by.Goals as goal
 
 pub loop-t-preserved : goal.loop-t-preserved
 loop-t-preserved g c =
     let A = g.A.Automaton.meaning c.args.automaton.now in
-    let i = c.loop-t.invariant in
-    let found = c.in-Some.ensures.is in
-    let lands = c.in-Some.ensures.lands in
-    (omega (arith, i.0, tally_next (A.step c.args.s c.args.letter) c.loop-t.from c.in-Some.t found.0 found.1 found.2), omega (arith, i.1, found.0), omega (arith, lands))
+    let (over, counted, few) = c.loop-t.invariant in
+    let gives = c.in-Some.ensures.steps in
+    let found = over_lowest over gives in
+    let behind = over_above over gives in (
+      over_more over gives,
+      rw behind (omega (arith, counted, tally_next (A.step c.args.s c.args.letter) c.loop-t._t-iterator.from c.in-Some._t found.0 found.1 found.2)),
+      omega (arith, behind, few, found.0),
+    )
 
-pub returns : goal.returns
-returns g c =
+pub returns-clause-is : goal.returns-clause-is
+returns-clause-is g c =
     let A = g.A.Automaton.meaning c.args.automaton.now in
-    let sound = g.A.Automaton.sound c.args.automaton.now in
-    let i = c.loop-t.invariant in
-    let none = c.in_default.ensures.is in
-    record {
-      is = i.0 ∙ sym (tally_none (A.step c.args.s c.args.letter) c.loop-t.from A.states i.2 (λ k low inside. none k low));
-      few = omega (arith, i.1, i.2, sound.few);
-    }
+    let (over, counted, _) = c.loop-t.invariant in
+    let none = over_lowest over c.in-None.ensures.steps in
+    counted ∙ sym (tally_none (A.step c.args.s c.args.letter) c.loop-t._t-iterator.from A.states over.inside (λ k low inside. none k low))
