@@ -11,7 +11,7 @@ use Rattle.hoa_grammar.specs.Labels.{Label, label_holds, deepest}
 use Rattle.hoa_grammar.specs.Machine.{bracketed, factor_due, closes, is_token, Current, within, target, at}
 use Rattle.hoa_grammar.specs.Reading.{Reached, Refused}
 use Rattle.hoa_grammar.proofs.Stepping.{reached_on}
-use Rattle.hoa_labels.specs.declared.part.Part.{Part}
+use Rattle.hoa_tokens.specs.declared.token.Read.{Read}
 use Rattle.hoa_labels.specs.Letters.{Means}
 use Rattle.hoa_labels.specs.Parts.{Slotted, Passed, LabelRead, BracketedRead, label_start, label_read}
 use Rattle.hoa_labels.proofs.Onward.{mark_goes_on, not_end}
@@ -22,7 +22,7 @@ module _ {text : List ℕ} {head : Placed} {p room : ℕ} (whole : room ≡ deep
   pub bracket_fails : {f : Fault} → LabelRead text head p room (Err f) → BracketedRead text head p (Err f)
   bracket_fails r cur signals reached = r.on bracketed cur (omega arith) (record { signals = signals; reached = reached })
 
-  module _ {x : Part} (r : LabelRead text head p room (Ok x)) where
+  module _ {x : Read ℕ} (r : LabelRead text head p room (Ok x)) where
     abbrev l : Label
     l = r.0.0.tree
 
@@ -38,6 +38,6 @@ module _ {text : List ℕ} {head : Placed} {p room : ℕ} (whole : room ≡ deep
           let h = slotted cur signals reached in
           reached_on h.reached (not_end x.head.token (mark_goes_on CloseBracket (lexeme x.head.token) closed)) (at (target cur l)) (in_block_lem h (closes l) (at_close_bracket p l (lexeme x.head.token) r.0.1 r.1 closed)) q scanned
 
-      pub bracket_read : (q : Result Part Fault) → Passed text x.head x.letters q → BracketedRead text head p q
+      pub bracket_read : (q : Result (Read ℕ) Fault) → Passed text x.head x.value q → BracketedRead text head p q
       bracket_read (Ok y) passed = (l, subst (Means p (label_holds l)) (sym passed.0) r.0.0.means, λ cur signals reached. to_target cur signals reached (Ok y.head) passed.1)
       bracket_read (Err f) passed = λ cur signals reached. to_target cur signals reached (Err f) passed

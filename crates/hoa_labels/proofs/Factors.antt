@@ -13,7 +13,7 @@ use Rattle.hoa_grammar.specs.Marking.{kept}
 use Rattle.hoa_grammar.specs.Verdicts.{fault_at}
 use Rattle.hoa_grammar.specs.Labels.{Factor, Label, label_holds, always, never, signal, negated, group, factor_holds, on, deepest, depth_limit}
 use Rattle.hoa_grammar.specs.Machine.{FactorContext, negating, grouping, factor_depth, LabelSlot, factor_due, behind_factor, stray, onto, label_step, is_token}
-use Rattle.hoa_labels.specs.declared.part.Part.{Part}
+use Rattle.hoa_tokens.specs.declared.token.Read.{Read}
 use Rattle.hoa_labels.specs.Letters.{Means}
 use Rattle.hoa_labels.specs.Parts.{Leads, Fails, at_end, WordRead, Passed, FactorRead, LabelRead, label_start, label_read}
 use Rattle.hoa_labels.proofs.Sets.{means_none, means_not}
@@ -27,7 +27,7 @@ itself c = c
 
 -- a factor of one token
 module _ (text : List ℕ) (head : Placed) (p room : ℕ) where
-  leaf : (f : Factor) (letters : ℕ) → Means p (factor_holds f) letters → at_end (lexeme head.token) ≡ false → ((c : FactorContext) → label_step p (factor_due c) (lexeme head.token) ≡ onto kept (behind_factor c f)) → (r : Result Part Fault) → Passed text head letters r → FactorRead text head p room r
+  leaf : (f : Factor) (letters : ℕ) → Means p (factor_holds f) letters → at_end (lexeme head.token) ≡ false → ((c : FactorContext) → label_step p (factor_due c) (lexeme head.token) ≡ onto kept (behind_factor c f)) → (r : Result (Read ℕ) Fault) → Passed text head letters r → FactorRead text head p room r
   leaf f letters means more is (Ok x) passed = record {
     tree = f;
     means = subst (Means p (factor_holds f)) (sym passed.0) means;
@@ -36,11 +36,11 @@ module _ (text : List ℕ) (head : Placed) (p room : ℕ) where
   }
   leaf f letters means more is (Err e) passed = steps (here itself) (λ c. behind_factor c f) (λ c deep. is c) (Err e) passed
 
-  pub word_read : {w : List ℕ} → lexeme head.token ≡ word w → (letters : ℕ) → WordRead p w head.place (Ok letters) → (r : Result Part Fault) → Passed text head letters r → FactorRead text head p room r
+  pub word_read : {w : List ℕ} → lexeme head.token ≡ word w → (letters : ℕ) → WordRead p w head.place (Ok letters) → (r : Result (Read ℕ) Fault) → Passed text head letters r → FactorRead text head p room r
   word_read is letters (inl t) = leaf always letters t.1 (ap at_end is) (λ c. ap (label_step p (factor_due c)) is ∙ rw t.0)
   word_read is letters (inr f) = leaf never letters (subst (Means p (λ a. false)) (sym f.2) (means_none p)) (ap at_end is) (λ c. ap (label_step p (factor_due c)) is ∙ rw (f.0, f.1))
 
-  pub signal_read : {i : ℕ} → lexeme head.token ≡ number i → (letters : ℕ) → i < p → Means p (on i) letters → (r : Result Part Fault) → Passed text head letters r → FactorRead text head p room r
+  pub signal_read : {i : ℕ} → lexeme head.token ≡ number i → (letters : ℕ) → i < p → Means p (on i) letters → (r : Result (Read ℕ) Fault) → Passed text head letters r → FactorRead text head p room r
   signal_read {i} is letters below means = leaf (signal i) letters means (ap at_end is) (λ c. ap (label_step p (factor_due c)) is ∙ rw (lt-leb p i below))
 
 -- a token with which no factor begins, or none that keeps the limits
@@ -103,12 +103,12 @@ module _ {D : Type 0} {second : D → FactorContext} {into : FactorContext → D
     pub part_fails : {behind : Placed} {f : Fault} → Scanned text (clipped text head.next) (found (Ok behind)) → Fails second text behind p inside f → FactorRead text head p room (Err f)
     part_fails {behind} scanned part = fails_in into (opened room inside enough (Ok behind) scanned) (same_room room inside enough) part
 
-module _ {text : List ℕ} {head behind : Placed} {p room inside : ℕ} {x : Part} (enough : room ≡ inside + 1) (scanned : Scanned text (clipped text head.next) (found (Ok behind))) where
+module _ {text : List ℕ} {head behind : Placed} {p room inside : ℕ} {x : Read ℕ} (enough : room ≡ inside + 1) (scanned : Scanned text (clipped text head.next) (found (Ok behind))) where
   -- `!` and a factor
-  pub negation_read : Opens itself negating p head → FactorRead text behind p inside (Ok x) → (all : ℕ) → Means p (λ a. true) all → FactorRead text head p room (Ok (record { letters = bit_xor x.letters all; head = x.head }))
+  pub negation_read : Opens itself negating p head → FactorRead text behind p inside (Ok x) → (all : ℕ) → Means p (λ a. true) all → FactorRead text head p room (Ok (record { value = bit_xor x.value all; head = x.head }))
   negation_read o r all every = record {
     tree = negated r.tree;
-    means = means_not p x.letters all (factor_holds r.tree) (λ a. true) r.means every;
+    means = means_not p x.value all (factor_holds r.tree) (λ a. true) r.means every;
     onward = onward_on (onward_next o.more scanned) r.onward;
     leads = part_leads o room inside enough scanned r.leads;
   }
@@ -128,7 +128,7 @@ module _ {text : List ℕ} {head behind : Placed} {p room inside : ℕ} {x : Par
       behind_group : (q : Result Placed Fault) → Scanned text (clipped text x.head.next) (found q) → MatchResult q (Leads itself text head p room (λ c. behind_factor c (group l))) (Fails itself text head p room)
       behind_group = steps led (λ c. behind_factor c (group l)) (λ c deep. at_close_paren p l (lexeme x.head.token) r.0.1 r.1 c closed)
 
-      pub group_read : (q : Result Part Fault) → Passed text x.head x.letters q → FactorRead text head p room q
+      pub group_read : (q : Result (Read ℕ) Fault) → Passed text x.head x.value q → FactorRead text head p room q
       group_read (Ok y) passed = record {
         tree = group l;
         means = subst (Means p (label_holds l)) (sym passed.0) r.0.0.means;

@@ -11,7 +11,7 @@ use Rattle.hoa_grammar.specs.Rows.{size}
 use Rattle.hoa_grammar.specs.Verdicts.{fault_at}
 use Rattle.hoa_grammar.specs.Machine.{FactorContext, LabelContext, first_factor, first_term, next_term, bracketed, factor_depth, LabelSlot, factor_due, term_read, behind_factor, by_kind, is_token, Current, within, target, at}
 use Rattle.hoa_grammar.specs.Reading.{Reached, Refused}
-use Rattle.hoa_labels.specs.declared.part.Part.{Part}
+use Rattle.hoa_tokens.specs.declared.token.Read.{Read}
 use Rattle.hoa_labels.specs.Letters.{Means}
 
 -- in a block of a text with p signals, this slot of a label is reached before the token in hand
@@ -38,9 +38,9 @@ pub record Onward (text : List ℕ) (head next : Placed) : Type 0 where
   pub within : next.next ≤ length text
 
 -- a part is read: a tree, its letters, and how reading has gone on
-pub record Reads {C T : Type 0} (first : C → FactorContext) (holds : T → ℕ → Bool) (behind : T → C → LabelSlot) (text : List ℕ) (head : Placed) (p room : ℕ) (x : Part) : Type 0 where
+pub record Reads {C T : Type 0} (first : C → FactorContext) (holds : T → ℕ → Bool) (behind : T → C → LabelSlot) (text : List ℕ) (head : Placed) (p room : ℕ) (x : Read ℕ) : Type 0 where
   pub tree : T
-  pub means : Means p (holds tree) x.letters
+  pub means : Means p (holds tree) x.value
   pub onward : Onward text head x.head
   pub leads : Leads first text head p room (behind tree) x.head
 
@@ -50,21 +50,21 @@ WordRead p w place (Ok letters) = ((alike w (codes "t") ≡ true) × Means p (λ
 WordRead p w place (Err e) = (alike w (codes "t") ≡ false) × (alike w (codes "f") ≡ false) × (e ≡ fault_at Unexpected place)
 
 -- the token behind the one in hand is found, or a fault of its bytes
-abbrev pub Passed : List ℕ → Placed → ℕ → Result Part Fault → Type 0
-Passed text head letters (Ok x) = (x.letters ≡ letters) × Scanned text (clipped text head.next) (found (Ok x.head))
+abbrev pub Passed : List ℕ → Placed → ℕ → Result (Read ℕ) Fault → Type 0
+Passed text head letters (Ok x) = (x.value ≡ letters) × Scanned text (clipped text head.next) (found (Ok x.head))
 Passed text head letters (Err f) = Scanned text (clipped text head.next) (fault f)
 
 -- a factor is read, or the text is refused
-abbrev pub FactorRead : List ℕ → Placed → ℕ → ℕ → Result Part Fault → Type 0
+abbrev pub FactorRead : List ℕ → Placed → ℕ → ℕ → Result (Read ℕ) Fault → Type 0
 FactorRead text head p room (Ok x) = Reads (λ c. c) factor_holds (λ f c. behind_factor c f) text head p room x
 FactorRead text head p room (Err e) = Fails {C = FactorContext} (λ c. c) text head p room e
 
 -- factors joined by `&` are read
-abbrev pub TermBegun : List ℕ → Placed → ℕ → ℕ → Part → Type 0
+abbrev pub TermBegun : List ℕ → Placed → ℕ → ℕ → Read ℕ → Type 0
 TermBegun text head p room x = Reads first_factor term_holds (λ t c. term_read c t) text head p room x
 
 -- a term is read: no `&` follows
-abbrev pub TermRead : List ℕ → Placed → ℕ → ℕ → Result Part Fault → Type 0
+abbrev pub TermRead : List ℕ → Placed → ℕ → ℕ → Result (Read ℕ) Fault → Type 0
 TermRead text head p room (Ok x) = TermBegun text head p room x × (is_token (mark And) (lexeme x.head.token) ≡ false)
 TermRead text head p room (Err e) = Fails first_factor text head p room e
 
@@ -77,17 +77,17 @@ label_read (term t) c = term_read (first_term c) t
 label_read (or l t) c = term_read (next_term c l) t
 
 -- terms joined by `|` are read, the last one whole
-abbrev pub LabelBegun : List ℕ → Placed → ℕ → ℕ → Part → Type 0
+abbrev pub LabelBegun : List ℕ → Placed → ℕ → ℕ → Read ℕ → Type 0
 LabelBegun text head p room x = Reads label_start label_holds label_read text head p room x × (is_token (mark And) (lexeme x.head.token) ≡ false)
 
 -- a label is read: neither `&` nor `|` follows
-abbrev pub LabelRead : List ℕ → Placed → ℕ → ℕ → Result Part Fault → Type 0
+abbrev pub LabelRead : List ℕ → Placed → ℕ → ℕ → Result (Read ℕ) Fault → Type 0
 LabelRead text head p room (Ok x) = LabelBegun text head p room x × (is_token (mark Or) (lexeme x.head.token) ≡ false)
 LabelRead text head p room (Err e) = Fails label_start text head p room e
 
 -- a label in square brackets is read, from behind the opening one: a target is due behind the closing one
-abbrev pub BracketedRead : List ℕ → Placed → ℕ → Result Part Fault → Type 0
+abbrev pub BracketedRead : List ℕ → Placed → ℕ → Result (Read ℕ) Fault → Type 0
 BracketedRead text head p (Ok x) =
-    (l : Label) × Means p (label_holds l) x.letters × ((cur : Current) → size cur.header.names ≡ p → Reached text (at (within cur (factor_due (label_start bracketed)))) head → Reached text (at (target cur l)) x.head)
+    (l : Label) × Means p (label_holds l) x.value × ((cur : Current) → size cur.header.names ≡ p → Reached text (at (within cur (factor_due (label_start bracketed)))) head → Reached text (at (target cur l)) x.head)
 BracketedRead text head p (Err e) =
     (cur : Current) → size cur.header.names ≡ p → Reached text (at (within cur (factor_due (label_start bracketed)))) head → Refused text e

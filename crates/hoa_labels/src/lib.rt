@@ -3,8 +3,6 @@
 
 mod label;
 mod letters;
-mod part;
 
 pub use label::read_label;
 pub use letters::Signals;
-pub use part::Part;

@@ -34,7 +34,7 @@ pub struct Placed<'a> {
 }
 
 /// A value that has been read, and the token behind it.
-#[derive(Clone, Copy, PartialEq, Eq, Debug)]
+#[derive(Clone, Copy)]
 pub struct Read<'a, T> {
     pub value: T,
     pub head: Placed<'a>,

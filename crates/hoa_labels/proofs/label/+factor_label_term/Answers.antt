@@ -1,6 +1,6 @@
 -- What each way out of `factor`, `term` and `label` returns is a part that is read or a fault with which the text is refused.
 -- First the arms of `factor`, then the first part and a turn of the loop of `term`, and the same of `label`.
-use Rattle.std.proofs.Common.{sym, ap}
+use Rattle.std.proofs.Common.{ap, rules}
 use Rattle.std.proofs.lemmas.Result.{err_from_is_err_and}
 use Rattle.hoa_tokens.specs.Scanning.{lexeme}
 use Rattle.hoa_labels.proofs.Factors.{word_read, word_fails, signal_read, signal_fails, mark_fails, name_or_end_fails, opens_factor, opens_label, too_deep, scan_fails, part_fails, negation_read, group_open, group_read}
@@ -64,19 +64,19 @@ factor-returns-in_err-letters-in-OpenParen t c =
     let p = err_from_is_err_and c.from_residual-in_err-letters-in-OpenParen.result c.from_residual-in_err-letters-in-OpenParen.ensures.1 in
     rw (p.1, p.2) (part_fails (opens_label c.in-Mark.is c.in-OpenParen.is) c.in_ok-inside-in-OpenParen.inside c.in_ok-inside-in-OpenParen.ensures c.in_ok-behind-in-OpenParen.ensures.scanned c.in_err-letters-in-OpenParen.ensures)
 
-pub factor-returns-then-not-ends_group : goal.factor-returns-then-not-ends_group
-factor-returns-then-not-ends_group t c =
-    rw c.unexpected.ensures (group_open c.in_ok-inside-in-OpenParen.ensures c.in_ok-behind-in-OpenParen.ensures.scanned (opens_label c.in-Mark.is c.in-OpenParen.is) c.in_ok-letters-in-OpenParen.ensures (sym c.if-not-ends_group.ensures))
+pub factor-returns-then-ne : goal.factor-returns-then-ne
+factor-returns-then-ne t c =
+    rw c.at.ensures (group_open c.in_ok-inside-in-OpenParen.ensures c.in_ok-behind-in-OpenParen.ensures.scanned (opens_label c.in-Mark.is c.in-OpenParen.is) c.in_ok-letters-in-OpenParen.ensures (search rules))
 
-pub factor-returns-else-not-ends_group : goal.factor-returns-else-not-ends_group
-factor-returns-else-not-ends_group t c =
-    group_read c.in_ok-inside-in-OpenParen.ensures c.in_ok-behind-in-OpenParen.ensures.scanned (opens_label c.in-Mark.is c.in-OpenParen.is) c.in_ok-letters-in-OpenParen.ensures (sym c.if-not-ends_group.ensures) c.passed-in-OpenParen.result c.passed-in-OpenParen.ensures
+pub factor-returns-else-ne : goal.factor-returns-else-ne
+factor-returns-else-ne t c =
+    group_read c.in_ok-inside-in-OpenParen.ensures c.in_ok-behind-in-OpenParen.ensures.scanned (opens_label c.in-Mark.is c.in-OpenParen.is) c.in_ok-letters-in-OpenParen.ensures (search rules) c.passed-in-OpenParen.result c.passed-in-OpenParen.ensures
 
 pub factor-returns-in_default : goal.factor-returns-in_default
-factor-returns-in_default t c = rw c.unexpected-in_default.ensures (mark_fails c.in-Mark.mark c.in-Mark.is c.in_default.not-Not c.in_default.not-OpenParen)
+factor-returns-in_default t c = rw c.at-in_default.ensures (mark_fails c.in-Mark.mark c.in-Mark.is c.in_default.not-Not c.in_default.not-OpenParen)
 
 pub factor-returns-in-Name : goal.factor-returns-in-Name
-factor-returns-in-Name t c = rw c.unexpected-in-Name.ensures (name_or_end_fails c.in-Name.is)
+factor-returns-in-Name t c = rw c.at-in-Name.ensures (name_or_end_fails c.in-Name.is)
 
 pub term-returns-in_err-letters : goal.term-returns-in_err-letters
 term-returns-in_err-letters t c =
@@ -89,15 +89,15 @@ term-loop-signals-init t c = term_first c.in_ok-letters.ensures
 pub term-returns-in_err-behind : goal.term-returns-in_err-behind
 term-returns-in_err-behind t c =
     let p = err_from_is_err_and c.from_residual-in_err-behind.result c.from_residual-in_err-behind.ensures.1 in
-    rw (p.1, p.2) (term_scan_fails c.loop-signals.invariant (sym c.loop-signals-test.ensures) c.in_err-behind.field-0.0 c.in_err-behind.ensures.scanned)
+    rw (p.1, p.2) (term_scan_fails c.loop-signals.invariant (search rules) c.in_err-behind.field-0.0 c.in_err-behind.ensures.scanned)
 
 pub term-returns-in_err-more : goal.term-returns-in_err-more
 term-returns-in_err-more t c =
     let p = err_from_is_err_and c.from_residual-in_err-more.result c.from_residual-in_err-more.ensures.1 in
-    rw (p.1, p.2) (term_part_fails c.loop-signals.invariant (sym c.loop-signals-test.ensures) c.in_ok-behind.ensures.scanned c.in_err-more.field-0.0 c.in_err-more.ensures)
+    rw (p.1, p.2) (term_part_fails c.loop-signals.invariant (search rules) c.in_ok-behind.ensures.scanned c.in_err-more.field-0.0 c.in_err-more.ensures)
 
 pub term-loop-signals-preserved : goal.term-loop-signals-preserved
-term-loop-signals-preserved t c = rw c.both-letters.ensures (term_more c.loop-signals.invariant (sym c.loop-signals-test.ensures) c.in_ok-behind.ensures.scanned c.in_ok-more.more c.in_ok-more.ensures)
+term-loop-signals-preserved t c = rw c.both-letters.ensures (term_more c.loop-signals.invariant (search rules) c.in_ok-behind.ensures.scanned c.in_ok-more.more c.in_ok-more.ensures)
 
 pub label-returns-in_err-letters : goal.label-returns-in_err-letters
 label-returns-in_err-letters t c =
@@ -110,12 +110,12 @@ label-loop-signals-init t c = label_first c.in_ok-letters.ensures
 pub label-returns-in_err-behind : goal.label-returns-in_err-behind
 label-returns-in_err-behind t c =
     let p = err_from_is_err_and c.from_residual-in_err-behind.result c.from_residual-in_err-behind.ensures.1 in
-    rw (p.1, p.2) (label_scan_fails c.loop-signals.invariant (sym c.loop-signals-test.ensures) c.in_err-behind.field-0.0 c.in_err-behind.ensures.scanned)
+    rw (p.1, p.2) (label_scan_fails c.loop-signals.invariant (search rules) c.in_err-behind.field-0.0 c.in_err-behind.ensures.scanned)
 
 pub label-returns-in_err-more : goal.label-returns-in_err-more
 label-returns-in_err-more t c =
     let p = err_from_is_err_and c.from_residual-in_err-more.result c.from_residual-in_err-more.ensures.1 in
-    rw (p.1, p.2) (label_part_fails c.loop-signals.invariant (sym c.loop-signals-test.ensures) c.in_ok-behind.ensures.scanned c.in_err-more.field-0.0 c.in_err-more.ensures)
+    rw (p.1, p.2) (label_part_fails c.loop-signals.invariant (search rules) c.in_ok-behind.ensures.scanned c.in_err-more.field-0.0 c.in_err-more.ensures)
 
 pub label-loop-signals-preserved : goal.label-loop-signals-preserved
-label-loop-signals-preserved t c = rw c.either-letters.ensures (label_more c.loop-signals.invariant (sym c.loop-signals-test.ensures) c.in_ok-behind.ensures.scanned c.in_ok-more.more c.in_ok-more.ensures)
+label-loop-signals-preserved t c = rw c.either-letters.ensures (label_more c.loop-signals.invariant (search rules) c.in_ok-behind.ensures.scanned c.in_ok-more.more c.in_ok-more.ensures)

@@ -15,13 +15,13 @@ decreases-label l = 3 * l.room + 2
 
 -- each turn reads on
 abbrev pub invariant-label-loop-signals : goal.invariant-label-loop-signals
-invariant-label-loop-signals l = LabelBegun l.text.bytes.now l.head-2 l.signals.count l.room (record { letters = l.letters; head = l.head })
+invariant-label-loop-signals l = LabelBegun l.text.bytes.now l.head-2 l.signals.count l.room (record { value = l.letters; head = l.head })
 
 abbrev pub decreases-label-loop-signals : goal.decreases-label-loop-signals
 decreases-label-loop-signals l = length l.text.bytes.now - l.head.next
 
 abbrev pub invariant-term-loop-signals : goal.invariant-term-loop-signals
-invariant-term-loop-signals l = TermBegun l.text.bytes.now l.head-2 l.signals.count l.room (record { letters = l.letters; head = l.head })
+invariant-term-loop-signals l = TermBegun l.text.bytes.now l.head-2 l.signals.count l.room (record { value = l.letters; head = l.head })
 
 abbrev pub decreases-term-loop-signals : goal.decreases-term-loop-signals
 decreases-term-loop-signals l = length l.text.bytes.now - l.head.next
