@@ -14,7 +14,7 @@ use Rattle.hoa_grammar.specs.Documents.{Header, Block, every, labelled, letters_
 use Rattle.hoa_grammar.specs.Machine.{is_token, bracketed, first_term, first_factor, factor_due, Current, with_edge, blocks_with, blocks, edges, within, State, at, stuck, goes, slot_step, step, number_only}
 use Rattle.hoa_grammar.specs.Reading.{Reached, Refused}
 use Rattle.hoa_grammar.proofs.Tests.{is_token_true}
-use Rattle.hoa_labels.specs.declared.part.Part.{Part}
+use Rattle.hoa_tokens.specs.declared.token.Read.{Read}
 use Rattle.hoa_labels.specs.Letters.{Means}
 use Rattle.hoa_labels.specs.Parts.{BracketedRead}
 use Rattle.hoa_document.specs.declared.expect.Numeral.{Numeral}
@@ -36,7 +36,7 @@ label_letter p letters l m = record { small = m.small; holds = λ a below. rw (l
 
 module _ {text : List ℕ} (cur : Current) (p : ℕ) {head : Placed} (st : Stands text (at (edges cur)) head) where
   -- the target of an edge without a label is in hand
-  pub unlabelled_read : BeginsEdge head → (lexeme head.token ≡ mark OpenBracket → ⊥) → (letters : ℕ) → Means p (λ a. true) letters → LettersRead text cur p (record { letters = letters; head = head })
+  pub unlabelled_read : BeginsEdge head → (lexeme head.token ≡ mark OpenBracket → ⊥) → (letters : ℕ) → Means p (λ a. true) letters → LettersRead text cur p (record { value = letters; head = head })
   unlabelled_read (inl (t, is)) other letters m = record { letters = every; means = every_letter p letters m; state = at (edges cur); stands = st; target = ap (step (at (edges cur))) is ∙ sym (ap (number_only _) is) }
   unlabelled_read (inr is) other letters m = absurd (other is)
 
@@ -45,8 +45,8 @@ module _ {text : List ℕ} (cur : Current) (p : ℕ) {head : Placed} (st : Stand
   label_begins is = stands_on st (λ e. mark_not_end OpenBracket (sym is ∙ e)) _ (ap (step (at (edges cur))) is)
 
 -- the label is read
-pub labelled_read : {text : List ℕ} (cur : Current) (p : ℕ) {head : Placed} → size cur.header.names ≡ p → Reached text (at (within cur (factor_due (first_factor (first_term bracketed))))) head → (q : Result Part Fault) → BracketedRead text head p q → MatchResult q (LettersRead text cur p) (Refused text)
-labelled_read cur p names r (Ok x) (l, means, on) = record { letters = labelled l; means = label_letter p x.letters l means; state = _; stands = stands_there (on cur names r); target = refl }
+pub labelled_read : {text : List ℕ} (cur : Current) (p : ℕ) {head : Placed} → size cur.header.names ≡ p → Reached text (at (within cur (factor_due (first_factor (first_term bracketed))))) head → (q : Result (Read ℕ) Fault) → BracketedRead text head p q → MatchResult q (LettersRead text cur p) (Refused text)
+labelled_read cur p names r (Ok x) (l, means, on) = record { letters = labelled l; means = label_letter p x.value l means; state = _; stands = stands_there (on cur names r); target = refl }
 labelled_read cur p names r (Err f) on = on cur names r
 
 -- a number that is read keeps its limit, and leads on
@@ -55,7 +55,7 @@ number_leads text limit go (Ok t) h = h.1
 number_leads text limit go (Err f) h = h
 
 -- the target is read
-pub target_read : {text : List ℕ} (cur : Current) (n p : ℕ) (x : Part) → cur.header.states ≡ n → (l : LettersRead text cur p x) → (q : Result Numeral Fault) → NumberRead text x.head (state_limit n) q → MatchResult q (λ t. Reached text (at (edges (with_edge cur l.letters t.value))) t.head) (Refused text)
+pub target_read : {text : List ℕ} (cur : Current) (n p : ℕ) (x : Read ℕ) → cur.header.states ≡ n → (l : LettersRead text cur p x) → (q : Result Numeral Fault) → NumberRead text x.head (state_limit n) q → MatchResult q (λ t. Reached text (at (edges (with_edge cur l.letters t.value))) t.head) (Refused text)
 target_read {text = text} cur n p x states l q read =
     let go : ℕ → State = λ t. at (edges (with_edge cur l.letters t)) in
     let y : Lexeme = lexeme x.head.token in
@@ -63,18 +63,18 @@ target_read {text = text} cur n p x states l q read =
     (read l.state go (subst (λ (m : ℕ). step l.state y ≡ number_only (λ t. goes (state_limit m t) (go t)) y) states l.target) l.stands)
 
 -- the edge is added to the block in hand
-pub edge_read : {text : List ℕ} (h : Header) (bs : Row Block) (b : Block) (n p from : ℕ) (old draft : Draft) (head : Placed) (x : Part) (to : ℕ) (behind : Placed) → Sized h n p → from < n → to < n → InBlock text h bs b from old head → (l : LettersRead text (current h bs b) p x) → Reached text (at (edges (with_edge (current h bs b) l.letters to))) behind → StepsAdded old.states old.signals from x.letters to old.cells draft.cells → (draft.states ≡ old.states) × (draft.signals ≡ old.signals) × (draft.starts ≡ old.starts) × (draft.goods ≡ old.goods) → (b' : Block) × InBlock text h bs b' from draft behind
+pub edge_read : {text : List ℕ} (h : Header) (bs : Row Block) (b : Block) (n p from : ℕ) (old draft : Draft) (head : Placed) (x : Read ℕ) (to : ℕ) (behind : Placed) → Sized h n p → from < n → to < n → InBlock text h bs b from old head → (l : LettersRead text (current h bs b) p x) → Reached text (at (edges (with_edge (current h bs b) l.letters to))) behind → StepsAdded old.states old.signals from x.value to old.cells draft.cells → (draft.states ≡ old.states) × (draft.signals ≡ old.signals) × (draft.starts ≡ old.starts) × (draft.goods ≡ old.goods) → (b' : Block) × InBlock text h bs b' from draft behind
 edge_read h bs b n p from old draft head x to behind sized from_in to_in i l r added same =
     let cur : Current = current h bs b in (
       (with_edge cur l.letters to).block,
       record {
         state = i.state;
-        drafted = drafted_edge cur l.letters x.letters to old draft
+        drafted = drafted_edge cur l.letters x.value to old draft
             (subst (λ (m : ℕ). b.state < m) (sym sized.0) (subst (λ (s : ℕ). s < n) (sym i.state) from_in))
             (subst (λ (m : ℕ). to < m) (sym sized.0) to_in)
-            (subst (λ (q : ℕ). Means q (letters_hold q l.letters) x.letters) (sym sized.1) l.means)
+            (subst (λ (q : ℕ). Means q (letters_hold q l.letters) x.value) (sym sized.1) l.means)
             i.drafted
-            (subst (λ (s : ℕ). StepsAdded old.states old.signals s x.letters to old.cells draft.cells) (sym i.state) added)
+            (subst (λ (s : ℕ). StepsAdded old.states old.signals s x.value to old.cells draft.cells) (sym i.state) added)
             same;
         stands = stands_there r;
       },

@@ -10,7 +10,7 @@ use Rattle.hoa_grammar.specs.Rows.{Row, none, more, some, size}
 use Rattle.hoa_grammar.specs.Documents.{Header, Block, Letters, Document, most_states, most_signals, letters_hold, block_steps}
 use Rattle.hoa_grammar.specs.Machine.{Current, blocks, edges, done, State, at, step, number_only, edge_to, header_of, initial, reading, run}
 use Rattle.hoa_grammar.specs.Reading.{Reached}
-use Rattle.hoa_labels.specs.declared.part.Part.{Part}
+use Rattle.hoa_tokens.specs.declared.token.Read.{Read}
 use Rattle.hoa_labels.specs.Letters.{Means}
 use Rattle.hoa_document.specs.declared.header.Heading.{Heading}
 use Rattle.hoa_document.specs.Naming.{first_names}
@@ -41,9 +41,9 @@ abbrev pub Sized : Header → ℕ → ℕ → Type 0
 Sized h n p = (h.states ≡ n) × (size h.names ≡ p)
 
 -- the letters of an edge are read, and its target is due
-pub record LettersRead (text : List ℕ) (cur : Current) (p : ℕ) (x : Part) : Type 0 where
+pub record LettersRead (text : List ℕ) (cur : Current) (p : ℕ) (x : Read ℕ) : Type 0 where
   pub letters : Letters
-  pub means : Means p (letters_hold p letters) x.letters
+  pub means : Means p (letters_hold p letters) x.value
   pub state : State
   pub stands : Stands text state x.head
   pub target : step state (lexeme x.head.token) ≡ number_only (edge_to cur letters) (lexeme x.head.token)

@@ -16,12 +16,16 @@ use crate::expect::{
     Numeral, expect_all, expect_word, is_mark, is_word, number, state, unexpected,
 };
 use crate::header::Heading;
-use hoa_labels::{Part, Signals, read_label};
-use hoa_tokens::{Fault, Layer, Mark, Placed, Refusal, Text, Token};
+use hoa_labels::{Signals, read_label};
+use hoa_tokens::{Fault, Layer, Mark, Placed, Read, Refusal, Text, Token};
 use tables::Draft;
 
 /// The letters of an edge, and its target in hand: those of its label, or all.
-fn read_letters<'a>(text: Text<'a>, head: Placed<'a>, signals: Signals) -> Result<Part<'a>, Fault>
+fn read_letters<'a>(
+    text: Text<'a>,
+    head: Placed<'a>,
+    signals: Signals,
+) -> Result<Read<'a, u16>, Fault>
     requires { BeginsEdge head }
     ensures { (cur : Current) → size cur.header.names ≡ signals.count → Stands text.entry.bytes.now (at (edges_slot cur)) head.entry → MatchResult result (LettersRead text.entry.bytes.now cur signals.count) (Refused text.entry.bytes.now) }
 {
@@ -29,8 +33,8 @@ fn read_letters<'a>(text: Text<'a>, head: Placed<'a>, signals: Signals) -> Resul
         let behind = text.scan(head.next)?;
         return read_label(text, behind, signals);
     }
-    Ok(Part {
-        letters: signals.all_letters(),
+    Ok(Read {
+        value: signals.all_letters(),
         head,
     })
 }
@@ -62,8 +66,8 @@ fn read_edges<'a>(
 {
     let mut head = head;
     while begins_edge(&head) {
-        let Part {
-            letters,
+        let Read {
+            value: letters,
             head: target,
         } = read_letters(text, head, signals)?;
         let to = state(text, target, states)?;

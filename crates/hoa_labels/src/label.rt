@@ -170,7 +170,11 @@ fn bracketed<'a>(
 }
 
 /// The label of an edge, from behind its `[` to behind its `]`.
-pub fn read_label<'a>(text: Text<'a>, head: Placed<'a>, signals: Signals) -> Result<Read<'a, u16>, Fault>
+pub fn read_label<'a>(
+    text: Text<'a>,
+    head: Placed<'a>,
+    signals: Signals,
+) -> Result<Read<'a, u16>, Fault>
     ensures { BracketedRead text.entry.bytes.now head.entry signals.count result }
 {
     bracketed(text, head, signals, DEEPEST)
