@@ -4,7 +4,7 @@ use lib.Arith.{digits_div, digits_mod}
 use Rattle.std.proofs.lemmas.Nat.{le-div, div-add-mod', mod_below}
 use Rattle.std.proofs.lemmas.Bool.{cases_lt}
 use Rattle.omega.specs.Automata.{Lowest}
-use Rattle.omega.specs.Cached.{place, NoneInRow}
+use Rattle.omega.specs.Places.{place, NoneInRow}
 use Rattle.omega.proofs.Tests.{both_pass, parts_pass}
 
 -- a place among the first c of row r

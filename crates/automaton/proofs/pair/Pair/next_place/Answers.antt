@@ -1,20 +1,11 @@
-use Rattle.std.proofs.Common.{ℕ, ◌+◌, ◌*◌, ◌^◌, ◌<◌, arith}
-use Rattle.std.proofs.lemmas.Nat.{mul-add-lt}
+use Rattle.std.proofs.Common.{arith}
 use Rattle.omega.proofs.Places.{place_in_later_row, no_later_row}
 use Rattle.automaton.proofs.pair.Pair.next_place.Goals as goal
 
--- a place of few rows and columns of 32 bits
-place_small : (p w q : ℕ) → p < 65536 → w < 2 ^ 32 → q < w → p * w + q < 2 ^ 49
-place_small p w q rows columns inside = omega (arith, mul-add-lt p w q 65536 rows inside)
+pub returns-in_err-p-clause-is : goal.returns-in_err-p-clause-is
+returns-in_err-p-clause-is g c =
+    rw c.from_residual.ensures (no_later_row _ _ c.args.self.now.columns c.requires.wide c.args.g c.in_default.ensures c.in_err-p.ensures.is)
 
-pub returns-in_default-next : goal.returns-in_default-next
-returns-in_default-next g c =
-    record { is = no_later_row _ _ c.args.self.now.columns c.requires.wide c.args.g c.in_default.ensures c.in_default-next.ensures.is; small = tt }
-
-pub returns-then-q-w : goal.returns-then-q-w
-returns-then-q-w g c =
-    let few = (g.A.Automaton.sound c.args.self.now.first.now).few in
-    record {
-      is = place_in_later_row _ _ c.args.self.now.columns c.requires.wide c.args.g c.in-Some-next.p c.in-Some-next-2.q c.in_default.ensures c.in-Some-next.ensures.is c.in-Some-next-2.ensures.is c.if-q-w.true;
-      small = place_small c.in-Some-next.p c.args.self.now.columns c.in-Some-next-2.q (omega (arith, c.in-Some-next.ensures.lands)) (omega arith) c.if-q-w.true;
-    }
+pub returns-clause-is : goal.returns-clause-is
+returns-clause-is g c =
+    place_in_later_row _ _ c.args.self.now.columns c.requires.wide c.args.g c.in_ok-p.p c.in_ok-q.q c.in_default.ensures c.in_ok-p.ensures.is c.in_ok-q.ensures.is (omega (arith, c.args.self.now.wide, c.in_ok-q.ensures.lands))
