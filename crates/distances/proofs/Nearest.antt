@@ -45,8 +45,8 @@ module _ (A : Meaning) (d p q : ℕ → ℕ) (head end g : ℕ) (tree : Tree A d
       ]
 
 -- what a search leaves when it ends anywhere
-pub searched_traced : (A : Meaning) (distance parent queue : List ℕ) (head end : ℕ) → Searched A distance parent queue head end → Traced A distance parent
-searched_traced A distance parent queue head end found =
+pub searched_traced : {A : Meaning} {distance parent queue : List ℕ} {head end : ℕ} → Searched A distance parent queue head end → Traced A distance parent
+searched_traced {A} {distance} found =
     record {
       distances = found.distances;
       parents = found.parents;
@@ -55,7 +55,7 @@ searched_traced A distance parent queue head end found =
           elim (dec_lt 0 (at distance s)) [
             | yes seen ↦
                 (let (i, b, place) = found.tree.placed s seen in
-                let (_, _, _, _, near, _) = queued-fits A distance parent queue head end i found b in
+                let near = (queued-fits found i b).near in
                 let same = ap (at distance) place in
                 omega arith)
             | no n ↦ omega arith
@@ -90,8 +90,9 @@ begun_more A distance queue end u begun new below room =
       sources = sources_more A (at distance) (at queue) (at queue) (at (set distance u 1)) (at queue) (at (set queue end u)) 0 end u (begun.tree (at queue)) new below others last earlier begun.sources here;
     }
 
-pub begun_searched : (A : Meaning) (distance parent queue : List ℕ) (end : ℕ) → Begun A distance queue end → A.states ≤ length parent → Searched A distance parent queue 0 end
-begun_searched A distance parent queue end begun room = record { distances = begun.distances; parents = room; places = begun.places; tree = begun.tree (at parent) }
+pub begun_searched : {A : Meaning} {distance queue : List ℕ} {end : ℕ} → Begun A distance queue end → (parent : List ℕ) → A.states ≤ length parent → Searched A distance parent queue 0 end
+begun_searched begun parent room =
+    record { behind = omega arith; distances = begun.distances; parents = room; places = begun.places; tree = begun.tree (at parent) }
 
 -- n steps along states and letters are a path
 chain-path :

@@ -1,27 +1,34 @@
 -- Visiting the successors of the queue's head, one after another and letter by letter, in lists.
-use Rattle.std.proofs.Common.{◌≡◌, ℕ, ◌+◌, ◌<◌, ◌≤◌, T, ◌⊎◌, List, length, set, Some, sym, refl, ap, ◌∙◌, subst, inl, inr, arith, length-set, get_or-set_other, get_or-set_same}
+use Rattle.std.proofs.Common.{◌≡◌, ℕ, ◌+◌, ◌<◌, ◌≤◌, T, ◌≢◌, ◌⊎◌, List, length, set, Some, sym, refl, ap, ◌∙◌, subst, inl, inr, arith, length-set, get_or-set_other, get_or-set_same}
 use native.Mathlib.Decide.{ℕ_discrete}
 use Rattle.omega.specs.Automata.{Meaning, Sound, Lowest, most_states}
 use Rattle.omega.proofs.Successors.{lowest_seen_more}
-use Rattle.distances.specs.Trees.{at, Searched, Extends, Visited, Room, Reaches}
+use Rattle.distances.specs.Trees.{at, Searched, Extends, Visited, Room}
 use Rattle.distances.proofs.Queues.{tree_fits, new_fits}
 use Rattle.distances.proofs.Trees.{tree_grows, tree-passes}
 
-pub searched_fits : (A : Meaning) (distance parent queue : List ℕ) (head end : ℕ) → Searched A distance parent queue head end → end ≤ A.states
-searched_fits A distance parent queue head end found = tree_fits A (at distance) (at parent) (at queue) head end found.tree
+pub searched_fits : {A : Meaning} {distance parent queue : List ℕ} {head end : ℕ} → Searched A distance parent queue head end → end ≤ A.states
+searched_fits {A} {distance} {parent} {queue} {head} {end} found = tree_fits A (at distance) (at parent) (at queue) head end found.tree
 
 -- a state in the queue, and its distance
+pub record Queued (A : Meaning) (distance queue : List ℕ) (end i : ℕ) : Type 0 where
+  pub place : i < length queue
+  pub state : at queue i < A.states
+  pub inside : at queue i < length distance
+  pub reached : 0 < at distance (at queue i)
+  pub near : at distance (at queue i) ≤ A.states
+  pub fits : end ≤ A.states
+
 pub queued-fits :
-    (A : Meaning) (distance parent queue : List ℕ) (head end i : ℕ) → Searched A distance parent queue head end → i < end →
-    (i < length queue) × (at queue i < A.states) × (at queue i < length distance) × (0 < at distance (at queue i)) × (at distance (at queue i) ≤ A.states) × (end ≤ A.states)
-queued-fits A distance parent queue head end i found b =
-    let fits = searched_fits A distance parent queue head end found in
+    {A : Meaning} {distance parent queue : List ℕ} {head end : ℕ} → Searched A distance parent queue head end → (i : ℕ) → i < end → Queued A distance queue end i
+queued-fits {A} {distance} {parent} {queue} found i b =
+    let fits = searched_fits found in
     let seen = found.tree.queued i b in
     let state = found.tree.states (at queue i) seen in
     let near = found.tree.near i b in
     let d = found.distances in
     let q = found.places in
-    (omega arith, state, omega arith, seen, omega arith, fits)
+    record { place = omega arith; state = state; inside = omega arith; reached = seen; near = omega arith; fits = fits }
 
 pub extends_seen : (distance distance' : List ℕ) → Extends distance distance' → (s : ℕ) → 0 < at distance s → 0 < at distance' s
 extends_seen distance distance' ext s seen = omega (arith, ext s)
@@ -35,14 +42,14 @@ extends_on one two three first second s = on (first s) (second s)
     on (inr x) (inl y) = inr (x.0, omega arith)
     on (inr x) (inr y) = inr (x.0, y.1)
 
-pub visited_none : (A : Meaning) (distance parent queue : List ℕ) (head end : ℕ) → Searched A distance parent queue head end → Visited A distance queue distance parent queue head end end
-visited_none A distance parent queue head end found = record { searched = found; grows = omega arith; extends = λ s. inl refl; same = λ i b. refl }
+pub visited_none : {A : Meaning} {distance parent queue : List ℕ} {head end : ℕ} → Searched A distance parent queue head end → Visited A distance queue distance parent queue head end end
+visited_none found = record { searched = found; grows = omega arith; extends = λ s. inl refl; same = λ i b. refl }
 
 pub visited-on :
-    (A : Meaning) (distance queue distance₁ parent₁ queue₁ distance₂ parent₂ queue₂ : List ℕ) (head₁ head₂ end end₁ end₂ : ℕ) →
+    {A : Meaning} {distance queue distance₁ parent₁ queue₁ distance₂ parent₂ queue₂ : List ℕ} {head₁ head₂ end end₁ end₂ : ℕ} →
     Visited A distance queue distance₁ parent₁ queue₁ head₁ end end₁ → Visited A distance₁ queue₁ distance₂ parent₂ queue₂ head₂ end₁ end₂ →
     Visited A distance queue distance₂ parent₂ queue₂ head₂ end end₂
-visited-on A distance queue distance₁ parent₁ queue₁ distance₂ parent₂ queue₂ head₁ head₂ end end₁ end₂ V W =
+visited-on {A} {distance} {queue} {distance₁} {parent₁} {queue₁} {distance₂} V W =
     let x = V.grows in
     let y = W.grows in
     record {
@@ -52,34 +59,39 @@ visited-on A distance queue distance₁ parent₁ queue₁ distance₂ parent₂
       same = λ i b. W.same i (omega arith) ∙ V.same i b;
     }
 
--- visited so far: the successors of s by the letter a below f
-abbrev pub VisitedBelow : Meaning → List ℕ → List ℕ → List ℕ → List ℕ → List ℕ → ℕ → ℕ → ℕ → ℕ → ℕ → ℕ → Type 0
-VisitedBelow A distance queue distance' parent' queue' head end end' s a f =
-    Visited A distance queue distance' parent' queue' head end end' × (f ≤ A.states) × ((t : ℕ) → t < f → T (A.step s a t) → 0 < at distance' t)
+-- the successors of the state s by the letter a below f are visited, where s is the head
+pub record VisitedBelow (A : Meaning) (distance queue distance' parent' queue' : List ℕ) (head end end' s a f : ℕ) : Type 0 where
+  pub visited : Visited A distance queue distance' parent' queue' head end end'
+  pub some : head < end
+  pub from_head : s ≡ at queue head
+  pub few : f ≤ A.states
+  pub seen : (t : ℕ) → t < f → T (A.step s a t) → 0 < at distance' t
 
 -- one successor more
-module _ (A : Meaning) (sound : Sound A) (distance queue distance' parent' queue' : List ℕ) (head end end' s a f t : ℕ)
-    (V : VisitedBelow A distance queue distance' parent' queue' head end end' s a f) (some : head < end) (is : s ≡ at queue head) (next : Lowest (A.step s a) f (Some t)) where
+module _ {A : Meaning} (sound : Sound A) {distance queue distance' parent' queue' : List ℕ} {head end end' s a f t : ℕ}
+    (V : VisitedBelow A distance queue distance' parent' queue' head end end' s a f) (next : Lowest (A.step s a) f (Some t)) where
   head_is : at queue' head ≡ s
-  head_is = V.0.same head some ∙ sym is
+  head_is = V.visited.same head V.some ∙ sym V.from_head
 
   head_there : head < end'
-  head_there = let grows = V.0.grows in omega arith
+  head_there = let some = V.some in let grows = V.visited.grows in omega arith
 
   step : T (A.step (at queue' head) a t)
   step = subst (λ x. T (A.step x a t)) (sym head_is) next.1
 
   pub successor_room : Room distance' parent' queue' end' s t
   successor_room =
-      let found = V.0.searched in
-      let (_, _, head_in, _, head_near, fits) = queued-fits A distance' parent' queue' head end' head found head_there in
+      let found = V.visited.searched in
+      let head_fits = queued-fits found head head_there in
+      let near = head_fits.near in
+      let fits = head_fits.fits in
       let few = sound.few in
       let below = sound.enters s a t next.1 in
       let d = found.distances in
       let p = found.parents in
       let q = found.places in
       record {
-        known = subst (λ x. x < length distance') head_is head_in;
+        known = subst (λ x. x < length distance') head_is head_fits.inside;
         small = subst (λ x. at distance' x ≤ most_states) head_is (omega arith);
         next = omega arith;
         child = omega arith;
@@ -89,7 +101,8 @@ module _ (A : Meaning) (sound : Sound A) (distance queue distance' parent' queue
 
   adds : at distance' t ≡ 0 → Visited A distance' queue' (set distance' t (at distance' s + 1)) (set parent' t s) (set queue' end' t) head end' (end' + 1)
   adds new =
-      let found = V.0.searched in
+      let found = V.visited.searched in
+      let behind = found.behind in
       let room = successor_room in
       let below = sound.enters s a t next.1 in
       let far : ℕ = at distance' s + 1 in
@@ -99,6 +112,7 @@ module _ (A : Meaning) (sound : Sound A) (distance queue distance' parent' queue
       record {
         searched =
             record {
+              behind = omega arith;
               distances = rw (length-set distance' t far) found.distances;
               parents = rw (length-set parent' t s) found.parents;
               places = rw (length-set queue' end' t) found.places;
@@ -116,62 +130,68 @@ module _ (A : Meaning) (sound : Sound A) (distance queue distance' parent' queue
         same = λ i b. get_or-set_other queue' end' i t 0 (omega arith);
       }
 
-  more : (distance'' parent'' queue'' : List ℕ) (end'' : ℕ) → Visited A distance' queue' distance'' parent'' queue'' head end' end'' → 0 < at distance'' t →
+  more : {distance'' parent'' queue'' : List ℕ} {end'' : ℕ} → Visited A distance' queue' distance'' parent'' queue'' head end' end'' → 0 < at distance'' t →
       VisitedBelow A distance queue distance'' parent'' queue'' head end end'' s a (t + 1)
-  more distance'' parent'' queue'' end'' W here =
-      let below = sound.enters s a t next.1 in (
-        visited-on A distance queue distance' parent' queue' distance'' parent'' queue'' head head end end' end'' V.0 W,
-        omega arith,
-        lowest_seen_more (A.step s a) (λ u. 0 < at distance'' u) f (λ u b st. extends_seen distance' distance'' W.extends u (V.2 u b st)) t next here,
-      )
+  more {distance''} W here =
+      let below = sound.enters s a t next.1 in
+      record {
+        visited = visited-on V.visited W;
+        some = V.some;
+        from_head = V.from_head;
+        few = omega arith;
+        seen = lowest_seen_more (A.step s a) (λ u. 0 < at distance'' u) f (λ u b st. extends_seen distance' distance'' W.extends u (V.seen u b st)) t next here;
+      }
 
-  pub successor_visited : (distance'' parent'' queue'' : List ℕ) (end'' : ℕ) → Reaches distance' parent' queue' end' s t distance'' parent'' queue'' end'' →
-      VisitedBelow A distance queue distance'' parent'' queue'' head end end'' s a (t + 1)
-  successor_visited distance'' parent'' queue'' end'' (inl (new, d, p, q, e)) =
-      rw (d, p, q, e)
-      (more (set distance' t (at distance' s + 1)) (set parent' t s) (set queue' end' t) (end' + 1) (adds new)
-      (let here = get_or-set_same distance' t (at distance' s + 1) 0 successor_room.next in omega arith))
-  successor_visited distance'' parent'' queue'' end'' (inr (old, d, p, q, e)) =
-      rw (d, p, q, e) (more distance' parent' queue' end' (visited_none A distance' parent' queue' head end' V.0.searched) (omega arith))
+  -- t is new
+  pub new_visited : at distance' t ≡ 0 → VisitedBelow A distance queue (set distance' t (at distance' s + 1)) (set parent' t s) (set queue' end' t) head end (end' + 1) s a (t + 1)
+  new_visited new = more (adds new) (let here = get_or-set_same distance' t (at distance' s + 1) 0 successor_room.next in omega arith)
 
--- visited so far: the successors of the head by the letters below a
-abbrev pub VisitedBy : Meaning → List ℕ → List ℕ → List ℕ → List ℕ → List ℕ → ℕ → ℕ → ℕ → ℕ → Type 0
-VisitedBy A distance queue distance' parent' queue' head end end' a =
-    Visited A distance queue distance' parent' queue' head end end' × ((x t : ℕ) → x < a → T (A.step (at queue head) x t) → 0 < at distance' t)
+  -- t was reached before
+  pub old_visited : at distance' t ≢ 0 → VisitedBelow A distance queue distance' parent' queue' head end end' s a (t + 1)
+  old_visited old = more (visited_none V.visited.searched) (omega arith)
 
-module _ (A : Meaning) (distance queue distance' parent' queue' : List ℕ) (head end end' a : ℕ) (some : head < end)
-    (V : VisitedBy A distance queue distance' parent' queue' head end end' a) where
+-- the successors of the head by the letters below a are visited
+pub record VisitedBy (A : Meaning) (distance queue distance' parent' queue' : List ℕ) (head end end' a : ℕ) : Type 0 where
+  pub visited : Visited A distance queue distance' parent' queue' head end end'
+  pub some : head < end
+  pub seen : (x t : ℕ) → x < a → T (A.step (at queue head) x t) → 0 < at distance' t
+
+module _ {A : Meaning} {distance queue distance' parent' queue' : List ℕ} {head end end' a : ℕ} (V : VisitedBy A distance queue distance' parent' queue' head end end' a) where
   -- one letter more
   pub letter-visited :
-      (distance'' parent'' queue'' : List ℕ) (end'' : ℕ) → Visited A distance' queue' distance'' parent'' queue'' head end' end'' →
+      {distance'' parent'' queue'' : List ℕ} {end'' : ℕ} → Visited A distance' queue' distance'' parent'' queue'' head end' end'' →
       ((t : ℕ) → T (A.step (at queue' head) a t) → 0 < at distance'' t) → VisitedBy A distance queue distance'' parent'' queue'' head end end'' (a + 1)
-  letter-visited distance'' parent'' queue'' end'' W new = (
-    visited-on A distance queue distance' parent' queue' distance'' parent'' queue'' head head end end' end'' V.0 W,
-    λ x t b step.
-        elim (ℕ_discrete x a) [
-          | yes e ↦ new t (subst (λ k. T (A.step k a t)) (sym (V.0.same head some)) (subst (λ k. T (A.step (at queue head) k t)) e step))
-          | no n ↦ extends_seen distance' distance'' W.extends t (V.1 x t (omega arith) step)
-        ],
-  )
+  letter-visited {distance''} W new =
+      record {
+        visited = visited-on V.visited W;
+        some = V.some;
+        seen = λ x t b step.
+            elim (ℕ_discrete x a) [
+              | yes e ↦ new t (subst (λ k. T (A.step k a t)) (sym (V.visited.same head V.some)) (subst (λ k. T (A.step (at queue head) k t)) e step))
+              | no n ↦ extends_seen distance' distance'' W.extends t (V.seen x t (omega arith) step)
+            ];
+      }
 
   -- all letters are visited by: the head is done with
   pub head_visited : ((x t : ℕ) → T (A.step (at queue head) x t) → x < a) → Visited A distance queue distance' parent' queue' (head + 1) end end'
   head_visited all =
-      let found = V.0.searched in
-      let grows = V.0.grows in
+      let found = V.visited.searched in
+      let grows = V.visited.grows in
+      let some = V.some in
       record {
         searched =
             record {
+              behind = omega arith;
               distances = found.distances;
               parents = found.parents;
               places = found.places;
               tree =
                   tree-passes A (at distance') (at parent') (at queue') head end' found.tree (omega arith)
                   (λ x t step.
-                  let step' : T (A.step (at queue head) x t) = subst (λ k. T (A.step k x t)) (V.0.same head some) step in
-                  V.1 x t (all x t step') step');
+                  let step' : T (A.step (at queue head) x t) = subst (λ k. T (A.step k x t)) (V.visited.same head V.some) step in
+                  V.seen x t (all x t step') step');
             };
         grows = grows;
-        extends = V.0.extends;
-        same = V.0.same;
+        extends = V.visited.extends;
+        same = V.visited.same;
       }

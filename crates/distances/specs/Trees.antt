@@ -1,5 +1,5 @@
 -- Scaffolding, no promise: what a breadth-first search keeps.
-use Rattle.std.specs.Prelude.{◌≡◌, ℕ, ◌+◌, ◌<◌, ◌≤◌, T, ◌≢◌, ◌⊎◌, List, length, slice_index, slice_set}
+use Rattle.std.specs.Prelude.{◌≡◌, ℕ, ◌+◌, ◌<◌, ◌≤◌, T, ◌≢◌, ◌⊎◌, List, length, slice_index}
 use Rattle.omega.specs.Automata.{Meaning, most_states}
 
 -- the word at a place, 0 past the end
@@ -27,6 +27,7 @@ pub record Tree (A : Meaning) (d p q : ℕ → ℕ) (head end : ℕ) : Type 0 wh
 
 -- the same in lists with a word for each state
 pub record Searched (A : Meaning) (distance parent queue : List ℕ) (head end : ℕ) : Type 0 where
+  pub behind : head ≤ end
   pub distances : A.states ≤ length distance
   pub parents : A.states ≤ length parent
   pub places : A.states ≤ length queue
@@ -51,12 +52,6 @@ pub record Room (distance parent queue : List ℕ) (end s t : ℕ) : Type 0 wher
   pub child : t < length parent
   pub few : end ≤ most_states
   pub place : at distance t ≡ 0 → end < length queue
-
--- a state t, not reached before, is reached from s and stands at the queue's end; or t was reached, and nothing changes
-abbrev pub Reaches : List ℕ → List ℕ → List ℕ → ℕ → ℕ → ℕ → List ℕ → List ℕ → List ℕ → ℕ → Type 0
-Reaches distance parent queue end s t distance' parent' queue' end' =
-    ((at distance t ≡ 0) × (distance' ≡ slice_set distance t (at distance s + 1)) × (parent' ≡ slice_set parent t s) × (queue' ≡ slice_set queue end t) × (end' ≡ end + 1)) ⊎
-    ((at distance t ≢ 0) × (distance' ≡ distance) × (parent' ≡ parent) × (queue' ≡ queue) × (end' ≡ end))
 
 -- the search has sources in its queue, and nothing else
 pub record Begun (A : Meaning) (distance queue : List ℕ) (end : ℕ) : Type 0 where

@@ -1,53 +1,74 @@
 -- The lasso in the strip against every lasso.
-use Rattle.std.proofs.Common.{◌≡◌, ℕ, suc, ◌+◌, ◌-◌, ◌*◌, ◌<◌, ◌≤◌, T, ◌↔◌, List, sym, ap, subst, arith}
+use Rattle.std.proofs.Common.{◌≡◌, ℕ, suc, ◌+◌, ◌-◌, ◌<◌, ◌≤◌, T, ◌↔◌, List, length, take, Option, None, Some, IsSome, sym, refl, ap, ◌∙◌, subst, arith}
 use native.Mathlib.Decide.{ℕ_discrete}
+use Rattle.std.proofs.lemmas.List.{get_or-take, length-take-le}
 use Rattle.omega.specs.Automata.{Meaning}
 use Rattle.omega.specs.Lassos.{Lasso, SomeLasso}
 use Rattle.omega.proofs.Paths.{Path}
-use Rattle.distances.specs.Trees.{at, Searched}
+use Rattle.distances.specs.Trees.{at}
+use Rattle.distances.proofs.Visits.{searched_fits}
 use Rattle.distances.proofs.Nearest.{path-no-shorter, lasso_paths}
-use Rattle.emptiness.specs.Parts.{TellsBest, TellsShortest, NoShorter}
+use Rattle.emptiness.proofs.Returns.{at_most-more}
+use Rattle.emptiness.specs.declared.breadth.Search.{Search}
+use Rattle.emptiness.specs.Parts.{Searching, AtMost, TellsBest, TellsShortest, NoWorse, NoShorter}
+
+at_most-some : (m : ℕ) (most : Option ℕ) → AtMost most m → IsSome most
+at_most-some m None none = absurd none
+at_most-some m (Some k) low = refl
+
+told_fewest :
+    {A : Meaning} {strip : List ℕ} (best : Option ℕ) → IsSome best → TellsBest A strip best → ((m q : ℕ) (state letter : ℕ → ℕ) → Lasso A m q state letter → AtMost best (m + q)) → TellsShortest A strip
+told_fewest None some told least = absurd (cc)
+told_fewest (Some steps) some (tells, count) least =
+    (tells, record { lasso = tells.lasso; fewest = λ m q state letter lasso. let x = least m q state letter lasso in omega arith })
 
 -- the first i states of the order are tried: none begins the loop of a lasso of fewer than `best` steps
-abbrev pub Tried : Meaning → List ℕ → List ℕ → List ℕ → ℕ → ℕ → Type 0
-Tried A distance order strip best i =
-    TellsBest A strip best × ((j : ℕ) → j < i → T (A.good (at order j)) → NoShorter A (at order j) (at distance (at order j)) best)
-
-pub tried_none : (A : Meaning) (distance order strip : List ℕ) (best : ℕ) → 2 * A.states < best → Tried A distance order strip best 0
-tried_none A distance order strip best past = (λ few. absurd (omega arith), λ j b. absurd (omega arith))
+pub record Tried (A : Meaning) (distance order strip : List ℕ) (best : Option ℕ) (i : ℕ) : Type 0 where
+  pub tells : TellsBest A strip best
+  pub least : (j : ℕ) → j < i → T (A.good (at order j)) → NoShorter A (at order j) (at distance (at order j)) best
 
 -- one state more
 pub tried-more :
-    (A : Meaning) (distance order strip strip' : List ℕ) (best best' i : ℕ) → Tried A distance order strip best i → TellsBest A strip' best' → best' ≤ best →
-    (T (A.good (at order i)) → NoShorter A (at order i) (at distance (at order i)) best') → Tried A distance order strip' best' (i + 1)
-tried-more A distance order strip strip' best best' i tried tells less here = (
-  tells,
-  λ j b good.
-      elim (ℕ_discrete j i) [
-        | yes e ↦ subst (λ k. NoShorter A (at order k) (at distance (at order k)) best') (sym e) (here (subst (λ k. T (A.good (at order k))) e good))
-        | no n ↦ (λ k path. let (x, y) = tried.1 j (omega arith) good k path in (omega arith, omega arith))
-      ],
-)
+    {A : Meaning} {distance order strip strip' : List ℕ} {best best' : Option ℕ} {i : ℕ} (g : ℕ) → Tried A distance order strip best i → TellsBest A strip' best' → NoWorse best best' →
+    (T (A.good g) → NoShorter A g (at distance g) best') → g ≡ at order i → Tried A distance order strip' best' (i + 1)
+tried-more {A} {distance} {order} {strip} {strip'} {best} {best'} {i} g tried tells no_worse here is =
+    record {
+      tells = tells;
+      least = λ j b.
+          elim (ℕ_discrete j i) [
+            | yes e ↦ subst (λ k. T (A.good k) → NoShorter A k (at distance k) best') (is ∙ ap (at order) (sym e)) here
+            | no n ↦ (λ good k path. no_worse _ (tried.least j (omega arith) good k path))
+          ];
+    }
 
-module _ (A : Meaning) (distance parent order : List ℕ) (end : ℕ) (search : Searched A distance parent order end end) (starts : (s : ℕ) → (at distance s ≡ 1) ↔ T (A.start s))
-    (strip : List ℕ) (best : ℕ) (tried : Tried A distance order strip best end) where
-  no_shorter : (m q : ℕ) (state letter : ℕ → ℕ) → Lasso A m q state letter → (best ≤ m + q) × (best ≤ 2 * A.states)
+-- the states that are reached, in the queue's order
+module _ {A : Meaning} (s : Search) (search : Searching A s) {order : List ℕ} (is : order ≡ take s.end s.queue.now) where
+  pub order_long : length order ≡ s.end
+  order_long = let fits = searched_fits search in let places = search.places in ap length is ∙ length-take-le s.end s.queue.now (omega arith)
+
+  pub order_place : (i : ℕ) → i < length order → at order i ≡ at s.queue.now i
+  order_place i b = let long = order_long in ap (λ words. at words i) is ∙ get_or-take s.end s.queue.now i 0 (omega arith)
+
+  pub order_reached : (i : ℕ) → i < length order → 0 < at s.distance.now (at order i)
+  order_reached i b = let long = order_long in subst (λ u. 0 < at s.distance.now u) (sym (order_place i b)) (search.tree.queued i (omega arith))
+
+module _ {A : Meaning} (s : Search) (search : Searching A s) (done : s.head ≡ s.end) (starts : (u : ℕ) → (at s.distance.now u ≡ 1) ↔ T (A.start u))
+    {strip : List ℕ} {best : Option ℕ} {i : ℕ} (all : s.end ≤ i) (tried : Tried A s.distance.now s.queue.now strip best i) where
+  no_shorter : (m q : ℕ) (state letter : ℕ → ℕ) → Lasso A m q state letter → AtMost best (m + q)
   no_shorter m q state letter lasso =
       let (there, back) = lasso_paths A m q state letter lasso in
       let one = (starts (state 0)).1 lasso.begins in
-      let (reached, near) = path-no-shorter A (at distance) (at parent) (at order) end search.tree m (state 0) (state m) (omega arith) there in
+      let tree = rw done at search.tree in
+      let (reached, near) = path-no-shorter A (at s.distance.now) (at s.parent.now) (at s.queue.now) s.end tree m (state 0) (state m) (omega arith) there in
       let (j, b, place) = search.tree.placed (state m) reached in
       let loops = lasso.loops in
       let e : q ≡ suc (q - 1) = omega arith in
-      let round : Path A (suc (q - 1)) (at order j) (at order j) = subst (λ s. Path A (suc (q - 1)) s s) (sym place) (subst (λ k. Path A k (state m) (state m)) e back) in
-      let (x, y) = tried.1 j b (subst (λ k. T (A.good k)) (sym place) lasso.good) (q - 1) round in
-      let far = ap (at distance) place in
-      (omega arith, y)
+      let round : Path A (suc (q - 1)) (at s.queue.now j) (at s.queue.now j) = rw place (rw e at back) in
+      let far : at s.distance.now (at s.queue.now j) ≡ at s.distance.now (state m) = ap (at s.distance.now) {x = at s.queue.now j} place in
+      at_most-more best (omega arith) (tried.least j (omega arith) (subst (λ k. T (A.good k)) (sym place) lasso.good) (q - 1) round)
 
-  pub best_shortest : best ≤ 2 * A.states → TellsShortest A strip
-  best_shortest found =
-      let (tells, count) = tried.0 found in
-      (tells, record { lasso = tells.lasso; fewest = λ m q state letter lasso. let x = (no_shorter m q state letter lasso).0 in omega arith })
+  pub best_shortest : IsSome best → TellsShortest A strip
+  best_shortest some = told_fewest best some tried.tells no_shorter
 
-  pub lasso_found : SomeLasso A → best ≤ 2 * A.states
-  lasso_found (m, q, state, letter, lasso) = (no_shorter m q state letter lasso).1
+  pub lasso_found : SomeLasso A → IsSome best
+  lasso_found (m, q, state, letter, lasso) = at_most-some (m + q) best (no_shorter m q state letter lasso)

@@ -10,7 +10,8 @@ use Rattle.distances.specs.Trees.{at}
 use Rattle.evidence.specs.Strips.{word_at, stem_of, loop_of, state_at, letter_at, TellsLasso, verdict_number}
 use Rattle.evidence.specs.declared.verdict.Verdict.TheVariants as verdict
 use Rattle.emptiness.specs.Searching.{ShortestTold}
-use Rattle.emptiness.specs.Parts.{TellsPath, TellsShortest}
+use Rattle.emptiness.specs.declared.breadth.Search.{Search}
+use Rattle.emptiness.specs.Parts.{FromStarts, Round, TellsPath, TellsShortest}
 use Rattle.emptiness.proofs.PathsTold.{step_same}
 
 module _ (A : Meaning) (distance back one two three : List ℕ) (g t m q a : ℕ)
@@ -80,16 +81,13 @@ module _ (A : Meaning) (distance back one two three : List ℕ) (g t m q a : ℕ
         closes = state ∙ sym middle;
       }
 
-  lasso_told : TellsLasso A three × (stem_of three ≡ m) × (loop_of three ≡ q + 1)
-  lasso_told = (
-    record {
-      verdict = word₀;
-      long = omega arith;
-      lasso = subst (λ k. Lasso A k (loop_of three) (state_at three) (letter_at three)) (sym word₁) (subst (λ k. Lasso A m k (state_at three) (letter_at three)) (sym word₂) lasso);
-    },
-    word₁,
-    word₂,
-  )
+  lasso_told : TellsLasso A three
+  lasso_told =
+      record {
+        verdict = word₀;
+        long = omega arith;
+        lasso = subst (λ k. Lasso A k (loop_of three) (state_at three) (letter_at three)) (sym word₁) (subst (λ k. Lasso A m k (state_at three) (letter_at three)) (sym word₂) lasso);
+      }
 
 -- the words that close a lasso
 abbrev closing : List ℕ → ℕ → ℕ → ℕ → ℕ → List ℕ
@@ -98,7 +96,7 @@ closing strip m q g a = set (set (set (set (set strip (2 + 2 * (m + q)) a) (3 + 
 closed-told :
     (A : Meaning) (distance back before one two : List ℕ) (g t m q a : ℕ) → TellsPath A distance before one 0 m g → TellsPath A back one two m q t →
     ((s : ℕ) → at distance s ≡ 1 → T (A.start s)) → ((s : ℕ) → at back s ≡ 1 → s ≡ g) → T (A.good g) → T (A.step t a g) → 4 + 2 * (m + (q + 1)) ≤ length two →
-    (let three : List ℕ = closing two m (q + 1) g a in TellsLasso A three × (stem_of three ≡ m) × (loop_of three ≡ q + 1))
+    TellsLasso A (closing two m (q + 1) g a)
 closed-told A distance back before one two g t m q a stem round starts source good step fit =
     let y : ℕ = 2 + 2 * (m + (q + 1)) in
     let x : ℕ = 3 + 2 * (m + (q + 1)) in
@@ -123,23 +121,19 @@ closed-told A distance back before one two g t m q a stem round starts source go
     (high x (omega arith) ∙ get_or-set_same w₁ x g 0 (omega arith))
     (λ j b c. high j b ∙ get_or-set_other w₁ x j g 0 (omega arith) ∙ get_or-set_other two y j a 0 (omega arith))
 
--- the same by the distance words: `far` of g, and `around` of t
-pub paths-tell-lasso :
-    (A : Meaning) (distance back before one two three : List ℕ) (g t a far around : ℕ) → 0 < far → 0 < around →
-    ((k : ℕ) → far ≡ k + 1 → TellsPath A distance before one 0 k g) → ((k : ℕ) → around ≡ k + 1 → TellsPath A back one two (far - 1) k t) →
-    ((s : ℕ) → at distance s ≡ 1 → T (A.start s)) → ((s : ℕ) → at back s ≡ 1 → s ≡ g) → T (A.good g) → T (A.step t a g) → 4 + 2 * (far - 1 + around) ≤ length two →
-    three ≡ closing two (far - 1) around g a → TellsLasso A three × (stem_of three + 1 ≡ far) × (loop_of three ≡ around)
-paths-tell-lasso A distance back before one two three g t a far around reached returned stem round starts source good step fit e =
-    let q : ℕ = around - 1 in
-    let more : q + 1 ≡ around = omega arith in
-    let told = closed-told A distance back before one two g t (far - 1) q a (stem (far - 1) (omega arith)) (round q (omega arith)) starts source good step (omega arith) in
-    let e' : three ≡ closing two (far - 1) (q + 1) g a = e ∙ ap (λ n. closing two (far - 1) n g a) (sym more) in
-    let told' : TellsLasso A three × (stem_of three ≡ far - 1) × (loop_of three ≡ q + 1) =
-    subst (λ strip. TellsLasso A strip × (stem_of strip ≡ far - 1) × (loop_of strip ≡ q + 1)) (sym e') told
-    in
-    let x = told'.1 in
-    let y = told'.2 in
-    (told'.0, omega arith, omega arith)
+-- the same of two searches
+pub searches-tell-lasso :
+    {A : Meaning} {found back : Search} {before one two three : List ℕ} {g t : ℕ} (a : ℕ) → FromStarts A found → Round A g back t → 0 < at found.distance.now g → T (A.good g) → T (A.step t a g) →
+    ((k : ℕ) → at found.distance.now g ≡ k + 1 → TellsPath A found.distance.now before one 0 k g) →
+    ((k : ℕ) → at back.distance.now t ≡ k + 1 → TellsPath A back.distance.now one two (at found.distance.now g - 1) k t) →
+    4 + 2 * (at found.distance.now g - 1 + at back.distance.now t) ≤ length two → three ≡ closing two (at found.distance.now g - 1) (at back.distance.now t) g a → TellsLasso A three
+searches-tell-lasso {A} {found} {back} {before} {one} {two} {three} {g} {t} a starts returned reached good step stem round fit e =
+    let m : ℕ = at found.distance.now g - 1 in
+    let q : ℕ = at back.distance.now t - 1 in
+    let there = returned.reached in
+    let more : q + 1 ≡ at back.distance.now t = omega arith in
+    let told = closed-told A found.distance.now back.distance.now before one two g t m q a (stem m (omega arith)) (round q (omega arith)) starts.starts returned.source good step (omega arith) in
+    subst (TellsLasso A) (sym (e ∙ ap (λ n. closing two m n g a) (sym more))) told
 
 -- a strip with the same words as far as the lasso goes
 module _ (A : Meaning) (strip strip' : List ℕ) (told : TellsShortest A strip) (long : length strip' ≡ length strip)

@@ -5,6 +5,5 @@ mod breadth;
 mod returning;
 mod shortest;
 mod telling;
-mod words;
 
 pub use shortest::shortest_lasso;

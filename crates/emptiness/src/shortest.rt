@@ -1,15 +1,14 @@
 //! A lasso of fewest steps.
-ghost use Rattle.std.specs.Prelude.{◌≡◌, ℕ, ◌+◌, ◌*◌, ◌<◌, ◌≤◌, T, length, replicate, MatchResult, OnErr, OnOk};
+ghost use Rattle.std.specs.Prelude.{◌≡◌, ℕ, ◌+◌, ◌*◌, ◌<◌, ◌≤◌, T, ◌↔◌, length, replicate, MatchResult, OnErr, OnOk};
 ghost use Rattle.omega.specs.Lassos.{SomeLasso};
-ghost use Rattle.distances.specs.Trees.{at, Traced};
+ghost use Rattle.distances.specs.Trees.{at};
 ghost use Rattle.lending.specs.Lending.{Enough, TooShort, strip_words, work_words};
 ghost use Rattle.emptiness.specs.Searching.{ShortestFound};
-ghost use Rattle.emptiness.specs.Parts.{Wide, TellsShortest, TellsBest, NoShorter};
+ghost use Rattle.emptiness.specs.Parts.{Wide, FromStarts, TellsShortest, TellsBest, NoShorter, NoWorse};
 
-use crate::breadth::{begin_at_starts, spread};
-use crate::returning::last_of_return;
+use crate::breadth::Search;
+use crate::returning::{is_at_most, last_of_return};
 use crate::telling::tell_lasso;
-use crate::words::clear_from;
 use automaton::Automaton;
 use evidence::Verdict;
 use lending::{check_words, clear};
@@ -43,114 +42,69 @@ fn find<A: Automaton>(automaton: &A, strip: &mut [u32], work: &mut [u32]) -> Ver
     let n = automaton.states() as usize;
     let (distance, rest) = work.split_at_mut(n);
     let (parent, rest) = rest.split_at_mut(n);
-    let (order, rest) = rest.split_at_mut(n);
+    let (queue, rest) = rest.split_at_mut(n);
     let (back_distance, rest) = rest.split_at_mut(n);
-    let (back_parent, queue) = rest.split_at_mut(n);
-    if !find_in(
-        automaton,
-        distance,
-        parent,
-        order,
-        back_distance,
-        back_parent,
-        queue,
-        strip,
-    ) {
+    let (back_parent, back_queue) = rest.split_at_mut(n);
+    let mut found = Search::new(distance, parent, queue);
+    let mut back = Search::new(back_distance, back_parent, back_queue);
+    if !find_in(automaton, &mut found, &mut back, strip) {
         clear(strip);
         return Verdict::Ranking;
     }
     let used = 4 + 2 * (strip[1] as usize + strip[2] as usize);
-    clear_from(strip, used);
+    strip[used..].fill(0);
     Verdict::Lasso
 }
 
 /// Whether there is a lasso: one of fewest steps then opens the strip.
 fn find_in<A: Automaton>(
     automaton: &A,
-    distance: &mut [u32],
-    parent: &mut [u32],
-    order: &mut [u32],
-    back_distance: &mut [u32],
-    back_parent: &mut [u32],
-    queue: &mut [u32],
+    found: &mut Search,
+    back: &mut Search,
     strip: &mut [u32],
 ) -> bool
-    requires wide { Wide (A.Automaton.meaning automaton.now) distance.old parent.old order.old }
-    requires back { Wide (A.Automaton.meaning automaton.now) back_distance.old back_parent.old queue.old }
+    requires wide { Wide (A.Automaton.meaning automaton.now) found.old }
+    requires back { Wide (A.Automaton.meaning automaton.now) back.old }
     requires strip { strip_words (A.Automaton.meaning automaton.now).states ≤ length strip.old }
     ensures some { T result → TellsShortest (A.Automaton.meaning automaton.now) strip.new }
     ensures none { SomeLasso (A.Automaton.meaning automaton.now) → T result }
 {
-    let n = automaton.states();
-    clear(distance);
-    let sources = begin_at_starts(automaton, distance, order);
-    let end = spread(automaton, distance, parent, order, sources);
-    let mut best = 2 * n + 1;
-    for i in 0..end {
-        best = improve(
-            automaton,
-            order[i as usize],
-            best,
-            distance,
-            parent,
-            back_distance,
-            back_parent,
-            queue,
-            strip,
-        );
+    found.begin_at_starts(automaton);
+    found.spread(automaton);
+    let found = &*found;
+    let mut best = None;
+    for g in found.reached() {
+        best = improve(automaton, *g, best, found, back, strip);
     }
-    best <= 2 * n
+    best.is_some()
 }
 
-/// Tells a lasso whose loop begins at `g`, if one has fewer than `best` steps; answers how many the lasso in the strip has now.
+/// Tells a lasso whose loop begins at `g`, if one has fewer steps than the best so far; answers how many the lasso in the strip has now, if there is one.
 fn improve<A: Automaton>(
     automaton: &A,
     g: u32,
-    best: u32,
-    distance: &[u32],
-    parent: &[u32],
-    back_distance: &mut [u32],
-    back_parent: &mut [u32],
-    queue: &mut [u32],
+    best: Option<u32>,
+    found: &Search,
+    back: &mut Search,
     strip: &mut [u32],
-) -> u32
-    requires traced { Traced (A.Automaton.meaning automaton.now) distance.now parent.now }
-    requires starts { (s : ℕ) → at distance.now s ≡ 1 → T ((A.Automaton.meaning automaton.now).start s) }
-    requires reached { 0 < at distance.now g }
-    requires back { Wide (A.Automaton.meaning automaton.now) back_distance.old back_parent.old queue.old }
+) -> Option<u32>
+    requires found { FromStarts (A.Automaton.meaning automaton.now) found.now }
+    requires reached { 0 < at found.now.distance.now g }
+    requires back { Wide (A.Automaton.meaning automaton.now) back.old }
     requires room { strip_words (A.Automaton.meaning automaton.now).states ≤ length strip.old }
     requires tells { TellsBest (A.Automaton.meaning automaton.now) strip.old best }
     ensures tells { TellsBest (A.Automaton.meaning automaton.now) strip.new result }
-    ensures less { result ≤ best }
-    ensures least { T ((A.Automaton.meaning automaton.now).good g) → NoShorter (A.Automaton.meaning automaton.now) g (at distance.now g) result }
+    ensures no_worse { NoWorse best result }
+    ensures least { T ((A.Automaton.meaning automaton.now).good g) → NoShorter (A.Automaton.meaning automaton.now) g (at found.now.distance.now g) result }
+    ensures wide { Wide (A.Automaton.meaning automaton.now) back.new }
 {
-    let far = distance[g as usize];
-    if best <= far {
+    let stem = found.distance[g as usize] - 1;
+    if is_at_most(best, stem + 1) || !automaton.is_good(g) {
         return best;
     }
-    if !automaton.is_good(g) {
-        return best;
-    }
-    let Some(t) = last_of_return(
-        automaton,
-        g,
-        best - far + 1,
-        back_distance,
-        back_parent,
-        queue,
-    ) else {
+    let Some(t) = last_of_return(automaton, g, stem, best, back) else {
         return best;
     };
-    let total = far - 1 + back_distance[t as usize];
-    tell_lasso(
-        automaton,
-        g,
-        t,
-        distance,
-        parent,
-        back_distance,
-        back_parent,
-        strip,
-    );
-    total
+    tell_lasso(automaton, g, t, found, back, strip);
+    Some(stem + back.distance[t as usize])
 }

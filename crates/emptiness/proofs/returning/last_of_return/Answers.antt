@@ -1,53 +1,32 @@
-use Rattle.std.proofs.Common.{arith, rules}
-use Rattle.emptiness.proofs.Returns.{all_zero, return-begins, return_none, head_fits, return_far, return_found, return-on}
+use Rattle.std.proofs.Common.{arith}
+use Rattle.distances.specs.Trees.{at}
+use Rattle.distances.proofs.Visits.{searched_fits, queued-fits}
+use Rattle.emptiness.proofs.Returns.{no_joining, return_none, return_far, return_found, return-on}
 use Rattle.emptiness.proofs.returning.last_of_return.Goals as goal
 
-pub loop-head-init : goal.loop-head-init
-loop-head-init g c =
-    let wide = c.requires.wide in
-    let kept = c.clear.auto.words in
-    return-begins (g.A.Automaton.meaning c.args.automaton.now) c.clear.new.words c.args.parent.now c.args.queue.now c.args.g (all_zero _ _ c.clear.ensures) (omega arith) wide.parents wide.places c.requires.state
+pub bounds-back-back : goal.bounds-back-back
+bounds-back-back g c = (queued-fits c.loop-back.invariant.searching _ c.loop-back-test.true).place
 
-pub overflow_cast-t : goal.overflow_cast-t
-overflow_cast-t g c =
-    let fits = (head_fits (g.A.Automaton.meaning c.args.automaton.now) c.args.g c.loop-head.distance c.loop-head.parent c.loop-head.queue c.loop-head.head c.loop-head.end c.loop-head.invariant c.loop-head-test.true).2 in
+pub overflow_add-stem : goal.overflow_add-stem
+overflow_add-stem g c =
+    let near = (queued-fits c.loop-back.invariant.searching _ c.loop-back-test.true).near in
     let few = (g.A.Automaton.sound c.args.automaton.now).few in
-    search rules
-
-pub offset_bounds-queue-head : goal.offset_bounds-queue-head
-offset_bounds-queue-head g c =
-    let fits = (head_fits (g.A.Automaton.meaning c.args.automaton.now) c.args.g c.loop-head.distance c.loop-head.parent c.loop-head.queue c.loop-head.head c.loop-head.end c.loop-head.invariant c.loop-head-test.true).2 in
-    let few = (g.A.Automaton.sound c.args.automaton.now).few in
-    search rules
-
-pub bounds-queue-head : goal.bounds-queue-head
-bounds-queue-head g c =
-    (head_fits (g.A.Automaton.meaning c.args.automaton.now) c.args.g c.loop-head.distance c.loop-head.parent c.loop-head.queue c.loop-head.head c.loop-head.end c.loop-head.invariant c.loop-head-test.true).0
-
-pub bounds-distance-t : goal.bounds-distance-t
-bounds-distance-t g c =
-    (head_fits (g.A.Automaton.meaning c.args.automaton.now) c.args.g c.loop-head.distance c.loop-head.parent c.loop-head.queue c.loop-head.head c.loop-head.end c.loop-head.invariant c.loop-head-test.true).1
-
-pub loop-head-smaller : goal.loop-head-smaller
-loop-head-smaller g c =
-    let fits = (head_fits (g.A.Automaton.meaning c.args.automaton.now) c.args.g c.loop-head.distance c.loop-head.parent c.loop-head.queue c.loop-head.head c.loop-head.end c.loop-head.invariant c.loop-head-test.true).2 in
+    let stem = c.requires.stem in
     omega arith
 
-pub loop-head-preserved : goal.loop-head-preserved
-loop-head-preserved g c =
-    return-on (g.A.Automaton.meaning c.args.automaton.now) c.args.g c.loop-head.distance c.loop-head.parent c.loop-head.queue c.loop-head.head c.loop-head.end c.loop-head.invariant c.loop-head-test.true
-    c.visit-end.new.distance c.visit-end.new.parent c.visit-end.new.queue c.visit-end.result c.in_default.ensures c.visit-end.ensures
+pub returns-then-is_at_most-clause-returns : goal.returns-then-is_at_most-clause-returns
+returns-then-is_at_most-clause-returns g c = return_far c.loop-back.invariant c.args.stem c.args.best (c.is_at_most.ensures.0 c.if-is_at_most.true)
 
-pub returns-then-distance-t : goal.returns-then-distance-t
-returns-then-distance-t g c =
-    return_far (g.A.Automaton.meaning c.args.automaton.now) c.args.g c.loop-head.distance c.loop-head.parent c.loop-head.queue c.loop-head.head c.loop-head.end c.loop-head.invariant c.loop-head-test.true
-    c.args.bound c.if-distance-t.true
+pub returns-then-is_some-clause-returns : goal.returns-then-is_some-clause-returns
+returns-then-is_some-clause-returns g c =
+    return_found c.loop-back.invariant c.loop-back-test.true c.args.stem c.args.best (λ less. cc (c.is_at_most.ensures.1 less)) c.letter_between.result (cc) c.letter_between.ensures
 
-pub returns-in-Some : goal.returns-in-Some
-returns-in-Some g c =
-    return_found (g.A.Automaton.meaning c.args.automaton.now) c.args.g c.loop-head.distance c.loop-head.parent c.loop-head.queue c.loop-head.head c.loop-head.end c.loop-head.invariant c.loop-head-test.true
-    c.args.bound c.in-Some._letter c.if-distance-t.false c.in-Some.ensures
+pub loop-back-smaller : goal.loop-back-smaller
+loop-back-smaller g c = let fits = searched_fits c.loop-back.invariant.searching in omega arith
 
-pub returns : goal.returns
-returns g c =
-    return_none (g.A.Automaton.meaning c.args.automaton.now) c.args.g c.loop-head.distance c.loop-head.parent c.loop-head.queue c.loop-head.head c.loop-head.end c.loop-head.invariant c.loop-head-test.false c.args.bound
+pub loop-back-preserved : goal.loop-back-preserved
+loop-back-preserved g c =
+    return-on c.loop-back.invariant c.loop-back-test.true (no_joining (g.A.Automaton.meaning c.args.automaton.now) (at c.loop-back.back.queue.now c.loop-back.back.head) c.args.g c.letter_between.result (cc) c.letter_between.ensures) c.visit.ensures.visiting c.visit.ensures.head
+
+pub returns-clause-returns : goal.returns-clause-returns
+returns-clause-returns g c k path = absurd (return_none c.loop-back.invariant c.loop-back-test.false k path)

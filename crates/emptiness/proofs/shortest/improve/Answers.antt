@@ -1,28 +1,27 @@
-use Rattle.std.proofs.Common.{arith}
+use Rattle.std.proofs.Common.{◌≡◌, suc, ◌+◌, ◌-◌, subst, arith}
+use Rattle.distances.specs.Trees.{at}
+use Rattle.emptiness.specs.Parts.{AtMost}
+use Rattle.emptiness.proofs.Returns.{at_most-less}
 use Rattle.emptiness.proofs.shortest.improve.Goals as goal
 
-pub returns-in_default : goal.returns-in_default
-returns-in_default g c =
-    let near = c.requires.traced.near c.args.g in
+pub returns-in_default-clause-least : goal.returns-in_default-clause-least
+returns-in_default-clause-least g c good k path =
     let reached = c.requires.reached in
-    record {
-      tells = c.requires.tells;
-      less = omega arith;
-      least = λ _ k path. let (x, y) = c.in_default.ensures k path in (omega arith, omega arith);
-    }
+    let e : at c.args.found.now.distance.now c.args.g - 1 + suc k ≡ at c.args.found.now.distance.now c.args.g + k = omega arith in
+    subst (AtMost c.args.best) e (c.in_default.ensures.returns k path)
 
-pub returns : goal.returns
-returns g c =
-    let back = c.in-Some.ensures in
-    let short = back.short in
-    let around = back.traced.near c.in-Some.t in
-    let near = c.requires.traced.near c.args.g in
+pub overflow_add-result : goal.overflow_add-result
+overflow_add-result g c =
+    let near = c.requires.found.traced.near c.args.g in
+    let around = c.in-Some.ensures.returns.round.traced.near c.in-Some.t in
+    let few = (g.A.Automaton.sound c.args.automaton.now).few in
+    omega arith
+
+pub returns-clause-no_worse : goal.returns-clause-no_worse
+returns-clause-no_worse g c m told = at_most-less c.args.best c.in-Some.ensures.returns.better told
+
+pub returns-clause-least : goal.returns-clause-least
+returns-clause-least g c _ k path =
     let reached = c.requires.reached in
-    let told = c.tell_lasso.ensures in
-    let stem = told.stem in
-    let round = told.round in
-    record {
-      tells = λ _. (told.tells, omega arith);
-      less = omega arith;
-      least = λ _ k path. let x = back.least k path in (omega arith, omega arith);
-    }
+    let least = c.in-Some.ensures.returns.least k path in
+    omega arith
