@@ -15,7 +15,7 @@ use Rattle.hoa_grammar.specs.Labels.{Factor, Label, label_holds, always, never, 
 use Rattle.hoa_grammar.specs.Machine.{FactorContext, negating, grouping, factor_depth, LabelSlot, factor_due, behind_factor, stray, onto, label_step, is_token}
 use Rattle.hoa_tokens.specs.declared.token.Read.{Read}
 use Rattle.hoa_labels.specs.Letters.{Means}
-use Rattle.hoa_labels.specs.Parts.{Leads, Fails, at_end, WordRead, Passed, FactorRead, LabelRead, label_start, label_read}
+use Rattle.hoa_labels.specs.Parts.{Leads, Fails, at_end, WordRead, Passed, ClosedBy, FactorRead, LabelRead, label_start, label_read}
 use Rattle.hoa_labels.proofs.Sets.{means_none, means_not}
 use Rattle.hoa_labels.proofs.Onward.{mark_goes_on, onward_next, onward_on}
 use Rattle.hoa_labels.proofs.Leading.{strays, breaks, steps, leads_through, fails_in, here}
@@ -121,14 +121,11 @@ module _ {text : List ℕ} {head behind : Placed} {p room inside : ℕ} {x : Rea
     led : Leads itself text head p room (λ c. label_read l (grouping c)) x.head
     led = part_leads o room inside enough scanned r.0.0.leads
 
-    pub group_open : is_token (mark CloseParen) (lexeme x.head.token) ≡ false → FactorRead text head p room (Err (fault_at Unexpected x.head.place))
-    group_open other = strays led (λ c. not_close_paren p l (lexeme x.head.token) r.0.1 r.1 c other)
-
     module _ (closed : is_token (mark CloseParen) (lexeme x.head.token) ≡ true) where
       behind_group : (q : Result Placed Fault) → Scanned text (clipped text x.head.next) (found q) → MatchResult q (Leads itself text head p room (λ c. behind_factor c (group l))) (Fails itself text head p room)
       behind_group = steps led (λ c. behind_factor c (group l)) (λ c deep. at_close_paren p l (lexeme x.head.token) r.0.1 r.1 c closed)
 
-      pub group_read : (q : Result (Read ℕ) Fault) → Passed text x.head x.value q → FactorRead text head p room q
+      group_read : (q : Result (Read ℕ) Fault) → Passed text x.head x.value q → FactorRead text head p room q
       group_read (Ok y) passed = record {
         tree = group l;
         means = subst (Means p (label_holds l)) (sym passed.0) r.0.0.means;
@@ -136,3 +133,7 @@ module _ {text : List ℕ} {head behind : Placed} {p room inside : ℕ} {x : Rea
         leads = behind_group (Ok y.head) passed.1;
       }
       group_read (Err f) passed = behind_group (Err f) passed
+
+    pub group_closed : (q : Result (Read ℕ) Fault) → ClosedBy CloseParen text x q → FactorRead text head p room q
+    group_closed q (inl c) = group_read c.0 q c.1
+    group_closed q (inr c) = rw c.1 (strays led (λ d. not_close_paren p l (lexeme x.head.token) r.0.1 r.1 d c.0))

@@ -2,6 +2,7 @@
 use Rattle.std.specs.Prelude.{◌≡◌, ℕ, ◌+◌, ◌≤◌, Bool, true, false, ◌⊎◌, List, length, Ok, Err, codes, Result}
 use Rattle.hoa_tokens.specs.declared.fault.Fault.{Fault}
 use Rattle.hoa_tokens.specs.declared.fault.Refusal.TheVariants.{Unexpected}
+use Rattle.hoa_tokens.specs.declared.token.Mark.{Mark}
 use Rattle.hoa_tokens.specs.declared.token.Mark.TheVariants.{And, Or}
 use Rattle.hoa_tokens.specs.declared.token.Placed.{Placed}
 use Rattle.hoa_tokens.specs.Scanning.{Lexeme, mark, fault, lexeme, found, Scanned, clipped}
@@ -53,6 +54,10 @@ WordRead p w place (Err e) = (alike w (codes "t") ≡ false) × (alike w (codes 
 abbrev pub Passed : List ℕ → Placed → ℕ → Result (Read ℕ) Fault → Type 0
 Passed text head letters (Ok x) = (x.value ≡ letters) × Scanned text (clipped text head.next) (found (Ok x.head))
 Passed text head letters (Err f) = Scanned text (clipped text head.next) (fault f)
+
+-- the mark in hand is passed, or another token is in hand, which is not allowed there
+abbrev pub ClosedBy : Mark → List ℕ → Read ℕ → Result (Read ℕ) Fault → Type 0
+ClosedBy m text x r = ((is_token (mark m) (lexeme x.head.token) ≡ true) × Passed text x.head x.value r) ⊎ ((is_token (mark m) (lexeme x.head.token) ≡ false) × (r ≡ Err (fault_at Unexpected x.head.place)))
 
 -- a factor is read, or the text is refused
 abbrev pub FactorRead : List ℕ → Placed → ℕ → ℕ → Result (Read ℕ) Fault → Type 0

@@ -4,7 +4,7 @@ ghost use Rattle.hoa_tokens.specs.declared.fault.Refusal.TheVariants.{TooDeep, O
 ghost use Rattle.hoa_grammar.specs.Labels.{on, deepest};
 ghost use Rattle.hoa_grammar.specs.Verdicts.{fault_at};
 ghost use Rattle.hoa_labels.specs.Letters.{Means};
-ghost use Rattle.hoa_labels.specs.Parts.{WordRead, Passed, FactorRead, TermRead, LabelRead, BracketedRead};
+ghost use Rattle.hoa_labels.specs.Parts.{WordRead, Passed, ClosedBy, FactorRead, TermRead, LabelRead, BracketedRead};
 
 use crate::letters::{Signals, both, either};
 use hoa_tokens::{Fault, Mark, Placed, Read, Refusal, Text, Token};
@@ -49,6 +49,16 @@ fn passed<'a>(text: Text<'a>, head: Placed<'a>, letters: u16) -> Result<Read<'a,
         value: letters,
         head: behind,
     })
+}
+
+/// The part with the token behind the mark that has to end it.
+fn closed<'a>(text: Text<'a>, part: Read<'a, u16>, mark: Mark) -> Result<Read<'a, u16>, Fault>
+    ensures { ClosedBy mark text.entry.bytes.now part.entry result }
+{
+    if part.head.token != Token::Mark(mark) {
+        return Err(Refusal::Unexpected.at(part.head.place));
+    }
+    passed(text, part.head, part.value)
 }
 
 /// Terms joined by `|`, from the token in hand on.
@@ -135,14 +145,8 @@ fn factor<'a>(
             Mark::OpenParen => {
                 let inside = room_inside(room, head.place)?;
                 let behind = text.scan(head.next)?;
-                let Read {
-                    value: letters,
-                    head: close,
-                } = label(text, behind, signals, inside)?;
-                if close.token != Token::Mark(Mark::CloseParen) {
-                    return Err(Refusal::Unexpected.at(close.place));
-                }
-                passed(text, close, letters)
+                let group = label(text, behind, signals, inside)?;
+                closed(text, group, Mark::CloseParen)
             }
             _ => Err(Refusal::Unexpected.at(head.place)),
         },
@@ -159,14 +163,8 @@ fn bracketed<'a>(
 ) -> Result<Read<'a, u16>, Fault>
     ensures { room ≡ deepest → BracketedRead text.entry.bytes.now head.entry signals.count result }
 {
-    let Read {
-        value: letters,
-        head: close,
-    } = label(text, head, signals, room)?;
-    if close.token != Token::Mark(Mark::CloseBracket) {
-        return Err(Refusal::Unexpected.at(close.place));
-    }
-    passed(text, close, letters)
+    let part = label(text, head, signals, room)?;
+    closed(text, part, Mark::CloseBracket)
 }
 
 /// The label of an edge, from behind its `[` to behind its `]`.

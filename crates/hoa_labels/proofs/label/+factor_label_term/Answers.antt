@@ -3,7 +3,7 @@
 use Rattle.std.proofs.Common.{ap, rules}
 use Rattle.std.proofs.lemmas.Result.{err_from_is_err_and}
 use Rattle.hoa_tokens.specs.Scanning.{lexeme}
-use Rattle.hoa_labels.proofs.Factors.{word_read, word_fails, signal_read, signal_fails, mark_fails, name_or_end_fails, opens_factor, opens_label, too_deep, scan_fails, part_fails, negation_read, group_open, group_read}
+use Rattle.hoa_labels.proofs.Factors.{word_read, word_fails, signal_read, signal_fails, mark_fails, name_or_end_fails, opens_factor, opens_label, too_deep, scan_fails, part_fails, negation_read, group_closed}
 use Rattle.hoa_labels.proofs.Turns.{term_first, term_fails_first, term_scan_fails, term_part_fails, term_more, label_first, label_fails_first, label_scan_fails, label_part_fails, label_more}
 use Rattle.hoa_labels.proofs.label.+factor_label_term.Goals as goal
 
@@ -59,21 +59,17 @@ factor-returns-in_err-behind-in-OpenParen t c =
     let p = err_from_is_err_and c.from_residual-in_err-behind-in-OpenParen.result c.from_residual-in_err-behind-in-OpenParen.ensures.1 in
     rw (p.1, p.2) (scan_fails (opens_label c.in-Mark.is c.in-OpenParen.is) c.in_ok-inside-in-OpenParen.inside c.in_ok-inside-in-OpenParen.ensures c.in_err-behind-in-OpenParen.ensures.scanned)
 
-pub factor-returns-in_err-letters-in-OpenParen : goal.factor-returns-in_err-letters-in-OpenParen
-factor-returns-in_err-letters-in-OpenParen t c =
-    let p = err_from_is_err_and c.from_residual-in_err-letters-in-OpenParen.result c.from_residual-in_err-letters-in-OpenParen.ensures.1 in
-    rw (p.1, p.2) (part_fails (opens_label c.in-Mark.is c.in-OpenParen.is) c.in_ok-inside-in-OpenParen.inside c.in_ok-inside-in-OpenParen.ensures c.in_ok-behind-in-OpenParen.ensures.scanned c.in_err-letters-in-OpenParen.ensures)
+pub factor-returns-in_err-group-in-OpenParen : goal.factor-returns-in_err-group-in-OpenParen
+factor-returns-in_err-group-in-OpenParen t c =
+    let p = err_from_is_err_and c.from_residual-in_err-group-in-OpenParen.result c.from_residual-in_err-group-in-OpenParen.ensures.1 in
+    rw (p.1, p.2) (part_fails (opens_label c.in-Mark.is c.in-OpenParen.is) c.in_ok-inside-in-OpenParen.inside c.in_ok-inside-in-OpenParen.ensures c.in_ok-behind-in-OpenParen.ensures.scanned c.in_err-group-in-OpenParen.ensures)
 
-pub factor-returns-then-ne : goal.factor-returns-then-ne
-factor-returns-then-ne t c =
-    rw c.at.ensures (group_open c.in_ok-inside-in-OpenParen.ensures c.in_ok-behind-in-OpenParen.ensures.scanned (opens_label c.in-Mark.is c.in-OpenParen.is) c.in_ok-letters-in-OpenParen.ensures (search rules))
-
-pub factor-returns-else-ne : goal.factor-returns-else-ne
-factor-returns-else-ne t c =
-    group_read c.in_ok-inside-in-OpenParen.ensures c.in_ok-behind-in-OpenParen.ensures.scanned (opens_label c.in-Mark.is c.in-OpenParen.is) c.in_ok-letters-in-OpenParen.ensures (search rules) c.passed-in-OpenParen.result c.passed-in-OpenParen.ensures
+pub factor-returns-in_ok-group-in-OpenParen : goal.factor-returns-in_ok-group-in-OpenParen
+factor-returns-in_ok-group-in-OpenParen t c =
+    group_closed c.in_ok-inside-in-OpenParen.ensures c.in_ok-behind-in-OpenParen.ensures.scanned (opens_label c.in-Mark.is c.in-OpenParen.is) c.in_ok-group-in-OpenParen.ensures c.closed.result c.closed.ensures
 
 pub factor-returns-in_default : goal.factor-returns-in_default
-factor-returns-in_default t c = rw c.at-in_default.ensures (mark_fails c.in-Mark.mark c.in-Mark.is c.in_default.not-Not c.in_default.not-OpenParen)
+factor-returns-in_default t c = rw c.at.ensures (mark_fails c.in-Mark.mark c.in-Mark.is c.in_default.not-Not c.in_default.not-OpenParen)
 
 pub factor-returns-in-Name : goal.factor-returns-in-Name
 factor-returns-in-Name t c = rw c.at-in-Name.ensures (name_or_end_fails c.in-Name.is)
