@@ -1,22 +1,15 @@
 //! Reads `sheet.hoa` and `rule.hoa` from the working directory and says what they come to.
 #![tactic(auto)]
 
-use hoa_tokens::LONGEST_TEXT;
 use outcomes::{decide, outcome_lines};
-use std::io::{Read, Write};
+use report::read_text;
+use std::io::Write;
 use std::{fs, io};
 
-/// The bytes of a file, or none where it cannot be read. One byte past the longest text is enough to see that a text is too long.
+/// The bytes of a file, or none where it cannot be read.
 fn read(rt: &HostRuntime, path: &str) -> Option<Vec<u8>> {
-    let Ok(file) = fs::open(rt, path) else {
-        return None;
-    };
-    let mut bytes = Vec::new(rt.alloc());
-    let most = LONGEST_TEXT as u64 + 1;
-    if file.take(most).read_to_end(&mut bytes).is_err() {
-        return None;
-    }
-    Some(bytes)
+    let file = fs::open(rt, path).and_then(|file| read_text(rt.alloc(), file));
+    file.ok()
 }
 
 fn main(rt: HostRuntime) -> io::Result<()> {

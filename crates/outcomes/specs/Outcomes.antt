@@ -1,5 +1,5 @@
 -- Promise. Which outcome two files have.
-use Rattle.std.specs.Prelude.{◌≡◌, ℕ, List, Some, None, Option}
+use Rattle.std.specs.Prelude.{◌≡◌, ℕ, List, Some, None, Ok, Err, Option, Result}
 use Rattle.omega.specs.Automata.{Meaning}
 use Rattle.census.specs.declared.census.Census.{Census}
 use Rattle.census.specs.Counts.{Counted}
@@ -8,8 +8,8 @@ use Rattle.hoa_tokens.specs.declared.fault.Refusal.TheVariants.{Unreadable}
 use Rattle.hoa_tokens.specs.Scanning.{bytes_fault}
 use Rattle.hoa_document.specs.Denoting.{TextDenotes, TextRefused}
 use Rattle.hoa_text.specs.Naming.{Readable, NamesAlike, Mismatched}
-use Rattle.outcomes.specs.declared.outcome.Outcome.{Outcome}
-use Rattle.outcomes.specs.declared.outcome.Outcome.TheVariants.{SheetRefused, RuleRefused, PairRefused, Read}
+use Rattle.outcomes.specs.declared.refused.Refused.{Refused}
+use Rattle.outcomes.specs.declared.refused.Refused.TheVariants.{Sheet, Rule, Pair}
 
 -- the file could be read, and its text is such
 abbrev pub Given : (List ℕ → Type 0) → Option (List ℕ) → Type 0
@@ -26,8 +26,8 @@ abbrev pub TextCounted : List ℕ → Census → Type 0
 TextCounted text x = (A : Meaning) × TextDenotes text A × Counted A x
 
 -- what two files come to: the sheet is refused, else the rule, else their names do not match; else both are counted
-abbrev pub Decided : Option (List ℕ) → Option (List ℕ) → Outcome → Type 0
-Decided sheet rule (SheetRefused f) = FileRefused sheet f
-Decided sheet rule (RuleRefused f) = Given Readable sheet × FileRefused rule f
-Decided sheet rule (PairRefused e) = Given (λ a. Given (λ b. Mismatched a b e) rule) sheet
-Decided sheet rule (Read x y) = Given (λ a. TextCounted a x) sheet × Given (λ b. TextCounted b y) rule × Given (λ a. Given (NamesAlike a) rule) sheet
+abbrev pub Decided : Option (List ℕ) → Option (List ℕ) → Result (Census × Census) Refused → Type 0
+Decided sheet rule (Err (Sheet f)) = FileRefused sheet f
+Decided sheet rule (Err (Rule f)) = Given Readable sheet × FileRefused rule f
+Decided sheet rule (Err (Pair e)) = Given (λ a. Given (λ b. Mismatched a b e) rule) sheet
+Decided sheet rule (Ok (x, y)) = Given (λ a. TextCounted a x) sheet × Given (λ b. TextCounted b y) rule × Given (λ a. Given (NamesAlike a) rule) sheet

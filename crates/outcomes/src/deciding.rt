@@ -1,14 +1,14 @@
-//! From the files' bytes to an outcome.
-ghost use Rattle.std.specs.Prelude.{◌≡◌, Some, vec_items, MatchResult};
+//! From the files' bytes to what the two come to.
+ghost use Rattle.std.specs.Prelude.{◌≡◌, vec_items, Some, None, MatchResult};
 ghost use Rattle.std.specs.Option.{option_map};
 ghost use Rattle.hoa_tokens.specs.declared.fault.Refusal.TheVariants.{Unreadable};
 ghost use Rattle.hoa_tokens.specs.Scanning.{bytes_fault};
 ghost use Rattle.hoa_document.specs.Denoting.{TextRefused};
 ghost use Rattle.outcomes.specs.Outcomes.{TextCounted, Decided};
 
-use crate::outcome::Outcome;
+use crate::refused::Refused;
 use census::{Census, take_census};
-use hoa_text::{MatchRefusal, ReadRefusal, match_names, read};
+use hoa_text::{ReadRefusal, match_names, read};
 use hoa_tokens::{Fault, Layer, Refusal};
 use tables::Table;
 
@@ -36,39 +36,29 @@ fn read_census(bytes: &[u8]) -> Result<Census, Fault>
     }
 }
 
-/// What two readable texts with these counts come to: whether they name their signals alike.
-fn decide_match(sheet: &[u8], rule: &[u8], first: Census, second: Census) -> Outcome
-    requires sheet { TextCounted sheet.now first }
-    requires rule { TextCounted rule.now second }
-    ensures { Decided (Some sheet.now) (Some rule.now) result }
+/// The bytes of a file, or the fault of one that could not be read.
+fn text_of(file: &Option<Vec<u8>>) -> Result<&[u8], Fault>
+    ensures { MatchResult result (λ text. option_map vec_items file.now ≡ Some text.now) (λ f. (option_map vec_items file.now ≡ None) × (f ≡ bytes_fault Unreadable 0)) }
 {
-    match match_names(sheet, rule) {
-        Ok(()) => Outcome::Read(first, second),
-        Err(MatchRefusal::First(fault)) => Outcome::SheetRefused(fault),
-        Err(MatchRefusal::Second(fault)) => Outcome::RuleRefused(fault),
-        Err(MatchRefusal::Parts(refusal)) => Outcome::PairRefused(refusal),
+    match file {
+        Some(bytes) => Ok(bytes.as_slice()),
+        None => Err(unreadable()),
     }
 }
 
-/// What a sheet and a rule come to. A file that could not be read is none.
+/// The counts of a sheet and a rule. A file that could not be read is none.
 ///
 /// The first refusal counts, in this order: the sheet's file, its text, the rule's file, its text, and then whether the two name their signals alike.
-pub fn decide(sheet: &Option<Vec<u8>>, rule: &Option<Vec<u8>>) -> Outcome
+pub fn decide(
+    sheet: &Option<Vec<u8>>,
+    rule: &Option<Vec<u8>>,
+) -> Result<(Census, Census), Refused>
     ensures { Decided (option_map vec_items sheet.now) (option_map vec_items rule.now) result }
 {
-    let Some(sheet) = sheet else {
-        return Outcome::SheetRefused(unreadable());
-    };
-    let first = match read_census(sheet.as_slice()) {
-        Ok(census) => census,
-        Err(fault) => return Outcome::SheetRefused(fault),
-    };
-    let Some(rule) = rule else {
-        return Outcome::RuleRefused(unreadable());
-    };
-    let second = match read_census(rule.as_slice()) {
-        Ok(census) => census,
-        Err(fault) => return Outcome::RuleRefused(fault),
-    };
-    decide_match(sheet.as_slice(), rule.as_slice(), first, second)
+    let sheet = text_of(sheet).map_err(Refused::Sheet)?;
+    let first = read_census(sheet).map_err(Refused::Sheet)?;
+    let rule = text_of(rule).map_err(Refused::Rule)?;
+    let second = read_census(rule).map_err(Refused::Rule)?;
+    match_names(sheet, rule)?;
+    Ok((first, second))
 }

@@ -3,9 +3,8 @@
 
 mod deciding;
 mod lines;
-mod outcome;
-mod source;
+mod refused;
 
 pub use deciding::decide;
 pub use lines::outcome_lines;
-pub use outcome::Outcome;
+pub use refused::Refused;

@@ -1,30 +1,17 @@
 //! The line of a refused text.
 ghost use Rattle.std.specs.Prelude.{◌≡◌, IfOk, string_bytes};
-ghost use Rattle.report.specs.Lines.{name_of_source, line_of_refusal};
+ghost use Rattle.report.specs.Lines.{line_of_refusal};
 
 use crate::source::Source;
 use hoa_tokens::Fault;
 use std::alloc::{AllocError, Global};
 
-impl Source {
-    /// The word by which the lines speak of the text.
-    pub fn name(self) -> &'static str
-        ensures { result.now ≡ name_of_source self }
-    {
-        match self {
-            Source::Sheet => "sheet",
-            Source::Rule => "rule",
-        }
-    }
-}
-
 /// The line that says that a text is refused: with number, place and layer.
 pub fn refused_line(heap: Global, source: Source, fault: Fault) -> Result<String, AllocError>
     ensures { IfOk result (λ s. string_bytes s ≡ line_of_refusal source fault) }
 {
-    let name = source.name();
     let number = fault.refusal.number();
     let place = fault.place;
     let layer = fault.layer.number();
-    format!(in heap; "refused {name} {number} {place} {layer}\n")
+    format!(in heap; "refused {source} {number} {place} {layer}\n")
 }

@@ -1,7 +1,8 @@
 //! What the program says of a file.
-ghost use Rattle.std.specs.Prelude.{◌≡◌, true, false, IfOk, vec_items, string_bytes};
+ghost use Rattle.std.specs.Prelude.{◌≡◌, IfOk, vec_items, string_bytes};
 ghost use Rattle.std.specs.Option.{option_map};
 ghost use Rattle.report.specs.Lines.{complaint, line_of_no_token, TextReported, Reported};
+ghost use Rattle.report.specs.Reports.{lines_of, is_sound};
 
 use crate::listing::listing;
 use crate::refusal::refused_line;
@@ -9,11 +10,13 @@ use crate::source::Source;
 use hoa_tokens::{Fault, Layer, Refusal, Text};
 use std::alloc::{AllocError, Global};
 
-/// The lines that are printed of a file, and whether the program goes on behind them.
+/// What is printed of a file.
 #[derive(Drop)]
-pub struct Report {
-    pub lines: Vec<u8>,
-    pub sound: bool,
+pub enum Report {
+    /// The lines of a text that is all tokens. The program goes on behind them.
+    Listed(Vec<u8>),
+    /// The line that says what is wrong. The program stops behind it.
+    Refused(String),
 }
 
 /// What is wrong with a byte of a text.
@@ -37,37 +40,25 @@ fn complaint_of(refusal: Refusal) -> &'static str
 fn no_token_line(heap: Global, source: Source, fault: Fault) -> Result<String, AllocError>
     ensures { IfOk result (λ s. string_bytes s ≡ line_of_no_token source fault) }
 {
-    let name = source.name();
     let place = fault.place;
     let complaint = complaint_of(fault.refusal);
-    format!(in heap; "{name} byte {place} {complaint}\n")
-}
-
-/// The report of one line, behind which the program stops.
-fn stop(line: String) -> Report
-    ensures lines { result.lines.items ≡ string_bytes line }
-    ensures sound { result.sound ≡ false }
-{
-    Report {
-        lines: line.into_bytes(),
-        sound: false,
-    }
+    format!(in heap; "{source} byte {place} {complaint}\n")
 }
 
 /// What is said of a text that is not too long.
 fn report_text(heap: Global, source: Source, text: Text<'_>) -> Result<Report, AllocError>
-    ensures { IfOk result (λ x. TextReported source text.entry.bytes.now x.lines.items x.sound) }
+    ensures { IfOk result (λ x. TextReported source text.entry.bytes.now (lines_of x) (is_sound x)) }
 {
-    let count = match text.count() {
-        Ok(count) => count,
-        Err(fault) => return Ok(stop(no_token_line(heap, source, fault)?)),
-    };
-    let name = source.name();
-    let heading = format!(in heap; "{name} {count} tokens\n")?;
-    let mut lines = heading.into_bytes();
-    let listed = listing(heap, text)?;
-    lines.extend_from_slice(listed.as_slice())?;
-    Ok(Report { lines, sound: true })
+    match text.count() {
+        Ok(count) => {
+            let heading = format!(in heap; "{source} {count} tokens\n")?;
+            let mut lines = heading.into_bytes();
+            let listed = listing(heap, text)?;
+            lines.extend_from_slice(listed.as_slice())?;
+            Ok(Report::Listed(lines))
+        }
+        Err(fault) => Ok(Report::Refused(no_token_line(heap, source, fault)?)),
+    }
 }
 
 /// What is said of a file: of its bytes, or that it cannot be read.
@@ -76,7 +67,7 @@ pub fn report_file(
     source: Source,
     file: &Option<Vec<u8>>,
 ) -> Result<Report, AllocError>
-    ensures { IfOk result (λ x. Reported source (option_map vec_items file.now) x.lines.items x.sound) }
+    ensures { IfOk result (λ x. Reported source (option_map vec_items file.now) (lines_of x) (is_sound x)) }
 {
     let Some(bytes) = file else {
         let fault = Fault {
@@ -84,10 +75,10 @@ pub fn report_file(
             place: 0,
             layer: Layer::Bytes,
         };
-        return Ok(stop(refused_line(heap, source, fault)?));
+        return Ok(Report::Refused(refused_line(heap, source, fault)?));
     };
     match Text::new(bytes.as_slice()) {
         Ok(text) => report_text(heap, source, text),
-        Err(fault) => Ok(stop(refused_line(heap, source, fault)?)),
+        Err(fault) => Ok(Report::Refused(refused_line(heap, source, fault)?)),
     }
 }

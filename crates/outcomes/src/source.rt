@@ -1,8 +1,0 @@
-//! The two texts of a certificate.
-
-/// Which of the two texts is meant.
-#[derive(Clone, Copy)]
-pub(crate) enum Source {
-    Sheet,
-    Rule,
-}
