@@ -2,26 +2,15 @@
 ghost use Rattle.std.specs.Prelude.{◌≡◌, vec_items, Some, None, MatchResult};
 ghost use Rattle.std.specs.Option.{option_map};
 ghost use Rattle.hoa_tokens.specs.declared.fault.Refusal.TheVariants.{Unreadable};
-ghost use Rattle.hoa_tokens.specs.Scanning.{bytes_fault};
+ghost use Rattle.hoa_tokens.specs.Faults.{fault_at};
 ghost use Rattle.hoa_document.specs.Denoting.{TextRefused};
 ghost use Rattle.outcomes.specs.Outcomes.{TextCounted, Decided};
 
 use crate::refused::Refused;
 use census::{Census, take_census};
 use hoa_text::{ReadRefusal, match_names, read};
-use hoa_tokens::{Fault, Layer, Refusal};
+use hoa_tokens::{Fault, Refusal};
 use tables::Table;
-
-/// The fault of a file that cannot be read.
-fn unreadable() -> Fault
-    ensures { result ≡ bytes_fault Unreadable 0 }
-{
-    Fault {
-        refusal: Refusal::Unreadable,
-        place: 0,
-        layer: Layer::Bytes,
-    }
-}
 
 /// The counts of the automaton that a text denotes, or why the text is refused.
 fn read_census(bytes: &[u8]) -> Result<Census, Fault>
@@ -32,17 +21,17 @@ fn read_census(bytes: &[u8]) -> Result<Census, Fault>
     match read(&mut table, bytes) {
         Ok(()) => Ok(take_census(&table)),
         Err(ReadRefusal::Text(fault)) => Err(fault),
-        Err(ReadRefusal::Lender(_)) => unreachable(),
+        Err(ReadRefusal::Lender(_)) => unreachable!(),
     }
 }
 
 /// The bytes of a file, or the fault of one that could not be read.
 fn text_of(file: &Option<Vec<u8>>) -> Result<&[u8], Fault>
-    ensures { MatchResult result (λ text. option_map vec_items file.now ≡ Some text.now) (λ f. (option_map vec_items file.now ≡ None) × (f ≡ bytes_fault Unreadable 0)) }
+    ensures { MatchResult result (λ text. option_map vec_items file.now ≡ Some text.now) (λ f. (option_map vec_items file.now ≡ None) × (f ≡ fault_at Unreadable 0)) }
 {
     match file {
         Some(bytes) => Ok(bytes.as_slice()),
-        None => Err(unreadable()),
+        None => Err(Refusal::Unreadable.at(0)),
     }
 }
 

@@ -36,7 +36,7 @@ fn token_line(heap: Global, t: Placed<'_>) -> Result<Vec<u8>, AllocError>
         }
         Token::Mark(m) => {
             let head = format!(in heap; "{place} mark ")?;
-            let sign = [m.sign()];
+            let sign = [u8::from(m)];
             line(heap, head.as_str(), &sign)
         }
         Token::End => {

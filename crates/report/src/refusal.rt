@@ -10,8 +10,8 @@ use std::alloc::{AllocError, Global};
 pub fn refused_line(heap: Global, source: Source, fault: Fault) -> Result<String, AllocError>
     ensures { IfOk result (λ s. string_bytes s ≡ line_of_refusal source fault) }
 {
-    let number = fault.refusal.number();
+    let number = u8::from(fault.refusal);
     let place = fault.place;
-    let layer = fault.layer.number();
+    let layer = u8::from(fault.layer);
     format!(in heap; "refused {source} {number} {place} {layer}\n")
 }

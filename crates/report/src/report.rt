@@ -7,7 +7,7 @@ ghost use Rattle.report.specs.Reports.{lines_of, is_sound};
 use crate::listing::listing;
 use crate::refusal::refused_line;
 use crate::source::Source;
-use hoa_tokens::{Fault, Layer, Refusal, Text};
+use hoa_tokens::{Fault, Refusal, Text};
 use std::alloc::{AllocError, Global};
 
 /// What is printed of a file.
@@ -70,11 +70,7 @@ pub fn report_file(
     ensures { IfOk result (λ x. Reported source (option_map vec_items file.now) (lines_of x) (is_sound x)) }
 {
     let Some(bytes) = file else {
-        let fault = Fault {
-            refusal: Refusal::Unreadable,
-            place: 0,
-            layer: Layer::Bytes,
-        };
+        let fault = Refusal::Unreadable.at(0);
         return Ok(Report::Refused(refused_line(heap, source, fault)?));
     };
     match Text::new(bytes.as_slice()) {

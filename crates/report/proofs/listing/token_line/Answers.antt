@@ -16,7 +16,7 @@ returns-in_ok-head-in-Name c =
 
 pub returns-in_ok-head-in-Mark : goal.returns-in_ok-head-in-Mark
 returns-in_ok-head-in-Mark c =
-    token_lined c.line-in-Mark.result vec_items c.args.t _ _ _ (c.sign.result ∷ []) c.in-Mark.is (c.as_str-in-Mark.ensures.value ∙ c.in_ok-head-in-Mark.ensures.ok) (ap (λ s. (decimal c.args.t.place ++ codes " mark ") ++ (s ∷ codes "\n")) c.sign.ensures) c.line-in-Mark.ensures
+    token_lined c.line-in-Mark.result vec_items c.args.t _ _ _ (c.from.result ∷ []) c.in-Mark.is (c.as_str-in-Mark.ensures.value ∙ c.in_ok-head-in-Mark.ensures.ok) (ap (λ s. (decimal c.args.t.place ++ codes " mark ") ++ (s ∷ codes "\n")) c.from.ensures) c.line-in-Mark.ensures
 
 pub returns-in_ok-head-in-End : goal.returns-in_ok-head-in-End
 returns-in_ok-head-in-End c =
