@@ -1,23 +1,18 @@
--- The first place of a byte, as a loop finds it, and what is left behind it.
-use Rattle.std.proofs.Common.{◌≡◌, ℕ, ◌+◌, ◌-◌, ◌<◌, ◌≤◌, max, not, List, ◌++◌, length, get_or, take, drop, replicate, sym, ap, ◌∙◌, arith, eq-eqb, ne_eqb}
-use Rattle.std.specs.List.{prefix_len}
+-- The first place of a byte, and what is left behind it.
+use Rattle.std.proofs.Common.{◌≡◌, ℕ, ◌+◌, ◌-◌, ◌≤◌, max, Bool, true, false, cond, List, ◌++◌, length, take, drop, replicate, Some, None, Option, refl, sym, ap, ◌∙◌, arith, ltb, ltb-false}
+use Rattle.std.specs.Option.{unwrap_or}
 use Rattle.std.proofs.lemmas.List.{take_all, drop_all, length-drop}
-use Rattle.std.proofs.lemmas.List.Sums.{prefix_len-drop_yes, prefix_len-drop_no, prefix_len-drop_all}
-use Rattle.conformance.specs.Fields.{unlike}
 use Rattle.conformance.specs.Lines.{padded_to}
 
--- no b stands before place i
-abbrev pub Unseen : ℕ → List ℕ → ℕ → Type 0
-Unseen b xs i = prefix_len (unlike b) xs ≡ i + prefix_len (unlike b) (drop i xs)
+place_told : (found : Option ℕ) (place end : ℕ) (before : Bool) → ltb place end ≡ before → place ≤ end → found ≡ cond before (Some place) None → unwrap_or found end ≡ place
+place_told found place end true test within is = ap (λ (o : Option ℕ). unwrap_or o end) is
+place_told found place end false test within is =
+    let last : end ≤ place = ltb-false place end test in
+    ap (λ (o : Option ℕ). unwrap_or o end) is ∙ omega arith
 
-pub unseen_found : (b : ℕ) (xs : List ℕ) (i : ℕ) → i < length xs → get_or xs i 0 ≡ b → Unseen b xs i → i ≡ prefix_len (unlike b) xs
-unseen_found b xs i within here unseen = omega (arith, prefix_len-drop_no (unlike b) xs i 0 within (ap not (eq-eqb (get_or xs i 0) b here)))
-
-pub unseen_more : (b : ℕ) (xs : List ℕ) (i : ℕ) → i < length xs → (get_or xs i 0 ≡ b → ⊥) → Unseen b xs i → Unseen b xs (i + 1)
-unseen_more b xs i within other unseen = omega (arith, prefix_len-drop_yes (unlike b) xs i 0 within (ap not (ne_eqb (get_or xs i 0) b other)))
-
-pub unseen_all : (b : ℕ) (xs : List ℕ) (i : ℕ) → length xs ≤ i → Unseen b xs i → i ≡ prefix_len (unlike b) xs
-unseen_all b xs i all unseen = omega (arith, prefix_len-drop_all (unlike b) xs i all)
+-- the place that is found, or the end
+pub place_or_end : (found : Option ℕ) (place end : ℕ) → place ≤ end → found ≡ cond (ltb place end) (Some place) None → unwrap_or found end ≡ place
+place_or_end found place end within is = place_told found place end (ltb place end) refl within is
 
 -- a slice from a place on
 pub slice_from : (xs : List ℕ) (k : ℕ) → take (length xs - k) (drop k xs) ≡ drop k xs

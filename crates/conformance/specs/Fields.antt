@@ -1,17 +1,13 @@
 -- Promise. The fields of a line, and the numbers that stand there.
 use Rattle.std.specs.Prelude.{ℕ, ◌+◌, ◌-◌, ◌*◌, min, Bool, not, List, take, drop, ◌==◌}
-use Rattle.std.specs.List.{prefix_len}
-
--- another byte than b
-abbrev pub unlike : ℕ → ℕ → Bool
-unlike b x = not (x == b)
+use Rattle.std.specs.List.{before_first, after_first}
 
 -- what stands before the first b, and what stands behind it
 abbrev pub front_of : ℕ → List ℕ → List ℕ
-front_of b xs = take (prefix_len (unlike b) xs) xs
+front_of b xs = before_first (λ x. x == b) xs
 
 abbrev pub behind_of : ℕ → List ℕ → List ℕ
-behind_of b xs = drop (prefix_len (unlike b) xs + 1) xs
+behind_of b xs = after_first (λ x. x == b) xs
 
 -- the greatest number of a table
 abbrev pub most_number : ℕ

@@ -15,20 +15,19 @@ const MOST_CELLS: usize = 4_097;
 fn refusal_text(heap: Global, refusal: ReadRefusal) -> Result<Vec<u8>, AllocError>
     ensures { IfOk result (λ v. v.items ≡ text_of_refusal refusal) }
 {
-    match refusal {
+    let text = match refusal {
         ReadRefusal::Lender(lender) => {
             let number = lender.number();
-            let text = format!(in heap; "refused {number}")?;
-            Ok(text.into_bytes())
+            format!(in heap; "refused {number}")?
         }
         ReadRefusal::Text(fault) => {
-            let number = fault.refusal.number();
+            let number = u8::from(fault.refusal);
             let place = fault.place;
-            let layer = fault.layer.number();
-            let text = format!(in heap; "refused {number} {place} {layer}")?;
-            Ok(text.into_bytes())
+            let layer = u8::from(fault.layer);
+            format!(in heap; "refused {number} {place} {layer}")?
         }
-    }
+    };
+    Ok(text.into_bytes())
 }
 
 /// A line: a name and an answer.

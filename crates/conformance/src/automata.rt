@@ -2,7 +2,7 @@
 ghost use Rattle.std.specs.Prelude.{◌≡◌, ◌/◌, ◌%◌, ◌^◌, ◌<◌, IfOk, if◌then◌else◌};
 ghost use Rattle.conformance.specs.Lines.{listed_where, is_marked_at, marked_text, letters_of_step, digit_in_hex, hex_text, text_of_step, row_text, steps_text, text_of_automaton};
 
-use automaton::Automaton;
+use automaton::{Automaton, has_step, letters};
 use std::alloc::{AllocError, Global};
 
 /// What a state may be marked as.
@@ -38,22 +38,11 @@ fn marked<A: Automaton>(heap: Global, automaton: &A, mark: Mark) -> Result<Vec<u
     ensures { IfOk result (λ v. v.items ≡ marked_text (A.Automaton.meaning automaton.now) mark) }
 {
     let mut text = Vec::new(heap);
-    let states = automaton.states();
-    for s in 0..states {
+    for s in 0..automaton.states() {
         let item = listed_if(heap, has_mark(automaton, mark, s), s)?;
         text.extend_from_slice(item.as_slice())?;
     }
     Ok(text)
-}
-
-/// Whether a step leads from `s` to `t` by the letter `a`.
-fn leads<A: Automaton>(automaton: &A, s: u32, a: u32, t: u32) -> bool
-    ensures { result ≡ (A.Automaton.meaning automaton.now).step s a t }
-{
-    let Some(found) = automaton.next(s, a, t) else {
-        return false;
-    };
-    found == t
 }
 
 /// The set of one letter, or the empty set.
@@ -64,24 +53,14 @@ fn letter_if(yes: bool, a: u32) -> u32
     if yes { 1 << a } else { 0 }
 }
 
-/// How many letters there are over some signals.
-fn letters_over(signals: u32) -> u32
-    requires { signals < 5 }
-    ensures is { result ≡ 2 ^ signals }
-    ensures few { result < 17 }
-{
-    1 << signals
-}
-
 /// The letters by which a step leads from `s` to `t`: bit a is letter a.
 fn step_letters<A: Automaton>(automaton: &A, s: u32, t: u32) -> u32
     ensures is { result ≡ letters_of_step (A.Automaton.meaning automaton.now) s t }
     ensures few { result < 65536 }
 {
     let mut set = 0;
-    let letters = letters_over(automaton.signals());
-    for a in 0..letters {
-        set += letter_if(leads(automaton, s, a, t), a);
+    for a in 0..letters(automaton) {
+        set += letter_if(has_step(automaton, s, a, t), a);
     }
     set
 }
@@ -124,8 +103,7 @@ fn row<A: Automaton>(heap: Global, automaton: &A, s: u32) -> Result<Vec<u8>, All
     ensures { IfOk result (λ v. v.items ≡ row_text (A.Automaton.meaning automaton.now) s) }
 {
     let mut text = Vec::new(heap);
-    let states = automaton.states();
-    for t in 0..states {
+    for t in 0..automaton.states() {
         let item = step_text(heap, s, t, step_letters(automaton, s, t))?;
         text.extend_from_slice(item.as_slice())?;
     }
@@ -137,8 +115,7 @@ fn steps<A: Automaton>(heap: Global, automaton: &A) -> Result<Vec<u8>, AllocErro
     ensures { IfOk result (λ v. v.items ≡ steps_text (A.Automaton.meaning automaton.now)) }
 {
     let mut text = Vec::new(heap);
-    let states = automaton.states();
-    for s in 0..states {
+    for s in 0..automaton.states() {
         let item = row(heap, automaton, s)?;
         text.extend_from_slice(item.as_slice())?;
     }

@@ -1,22 +1,17 @@
 //! The fields of a line: what stands before and behind the first byte of a kind, and what number digits write.
-ghost use Rattle.std.specs.Prelude.{◌≡◌, ◌+◌, ◌<◌, ◌≤◌, length, fold};
-ghost use Rattle.conformance.specs.Fields.{front_of, behind_of, unlike, grown_by_digit, most_number};
-ghost use Rattle.std.specs.List.{prefix_len};
+ghost use Rattle.std.specs.Prelude.{◌≡◌, ◌+◌, ◌<◌, ◌≤◌, length, fold, ◌==◌};
+ghost use Rattle.conformance.specs.Fields.{front_of, behind_of, grown_by_digit, most_number};
+ghost use Rattle.std.specs.List.{position_or_len};
 
 /// The greatest number of a table.
 const MOST_NUMBER: usize = 1_000_000;
 
 /// The place of the first byte `b`, or the end.
 fn place(bytes: &[u8], b: u8) -> usize
-    ensures is { result ≡ prefix_len (unlike b) bytes.now }
+    ensures is { result ≡ position_or_len (λ x. x == b) bytes.now }
     ensures within { result ≤ length bytes.now }
 {
-    for (i, x) in bytes.iter().enumerate() {
-        if *x == b {
-            return i;
-        }
-    }
-    bytes.len()
+    bytes.iter().position(|x| *x == b).unwrap_or(bytes.len())
 }
 
 /// What stands before the first byte `b`; all where there is none.

@@ -7,7 +7,7 @@ use Rattle.conformance.proofs.automata.step_letters.Goals as goal
 -- the set with one more letter
 more : (g : given.Over) (c : goal.After-letter_if-set g) → c.loop-a.set + c.letter_if-set.result ≡ letter_set (λ a. (g.A.Automaton.meaning c.args.automaton.now).step c.args.s a c.args.t) (c.loop-a.a + 1)
 more g c =
-    letter_set_more _ c.loop-a.a c.loop-a.set c.letter_if-set.result c.loop-a.invariant (c.letter_if-set.ensures ∙ ap (λ (b : Bool). cond b (2 ^ c.loop-a.a) 0) c.leads.ensures)
+    letter_set_more _ c.loop-a.a c.loop-a.set c.letter_if-set.result c.loop-a.invariant (c.letter_if-set.ensures ∙ ap (λ (b : Bool). cond b (2 ^ c.loop-a.a) 0) c.has_step.ensures)
 
 pub overflow_add-set : goal.overflow_add-set
 overflow_add-set g c = omega (arith, more g c, letter_set_few (λ a. (g.A.Automaton.meaning c.args.automaton.now).step c.args.s a c.args.t) (c.loop-a.a + 1) (omega arith))
@@ -18,8 +18,8 @@ loop-a-preserved g c = more g c
 pub returns : goal.returns
 returns g c =
     let all : c.loop-a.a ≡ 2 ^ (g.A.Automaton.meaning c.args.automaton.now).signals =
-    let end : c.loop-a.a ≡ c.letters_over-letters.result = omega arith in
-    end ∙ (c.letters_over-letters.ensures.is ∙ ap (λ (k : ℕ). 2 ^ k) c.signals.ensures.is) in
+    let end : c.loop-a.a ≡ c.letters-a-end.result = omega arith in
+    end ∙ c.letters-a-end.ensures.is in
     record {
       is = c.loop-a.invariant ∙ ap (letter_set (λ a. (g.A.Automaton.meaning c.args.automaton.now).step c.args.s a c.args.t)) all;
       few = omega (arith, c.loop-a.invariant, letter_set_few (λ a. (g.A.Automaton.meaning c.args.automaton.now).step c.args.s a c.args.t) c.loop-a.a (omega arith));

@@ -1,18 +1,11 @@
-use Rattle.std.proofs.Common.{arith}
-use Rattle.conformance.proofs.Placing.{unseen_found, unseen_more, unseen_all}
+use Rattle.std.proofs.Common.{◌==◌, length, rules, tests, ◌∙◌}
+use Rattle.std.proofs.lemmas.Iterator.{YieldsList-from_slice}
+use Rattle.std.proofs.lemmas.Iterator.Search.{position_from_yields_List}
+use Rattle.std.proofs.lemmas.List.Sums.{prefix_len-le-length}
+use Rattle.conformance.proofs.Placing.{place_or_end}
 use Rattle.conformance.proofs.field.place.Goals as goal
 
-pub returns-then-x-b : goal.returns-then-x-b
-returns-then-x-b c = record {
-  is = unseen_found c.args.b c.args.bytes.now c.loop-i.i c.loop-i-test.true c.if-x-b.true c.loop-i.invariant;
-  within = c.loop-i.auto.i-end;
-}
-
-pub loop-i-preserved : goal.loop-i-preserved
-loop-i-preserved c = unseen_more c.args.b c.args.bytes.now c.loop-i.i c.loop-i-test.true c.if-x-b.false c.loop-i.invariant
-
-pub returns : goal.returns
-returns c = record {
-  is = omega (arith, unseen_all c.args.b c.args.bytes.now c.loop-i.i c.loop-i-test.false c.loop-i.invariant);
-  within = omega arith;
-}
+pub returns-clause-is : goal.returns-clause-is
+returns-clause-is c =
+    c.unwrap_or.ensures ∙ place_or_end c.position.result _ (length c.args.bytes.now) (prefix_len-le-length _ c.args.bytes.now)
+    (position_from_yields_List (λ x. x == c.args.b) _ _ _ c.position.ensures.ran (YieldsList-from_slice c.args.bytes.now cc) (λ x b q k. search (rules, tests)))
