@@ -25,14 +25,26 @@ fn read_census(bytes: &[u8]) -> Result<Census, Fault>
     }
 }
 
-/// The bytes of a file, or the fault of one that could not be read.
-fn text_of(file: &Option<Vec<u8>>) -> Result<&[u8], Fault>
-    ensures { MatchResult result (λ text. option_map vec_items file.now ≡ Some text.now) (λ f. (option_map vec_items file.now ≡ None) × (f ≡ fault_at Unreadable 0)) }
+/// The fault of a file that could not be read.
+fn unreadable() -> Fault
+    ensures { result ≡ fault_at Unreadable 0 }
 {
-    match file {
-        Some(bytes) => Ok(bytes.as_slice()),
-        None => Err(Refusal::Unreadable.at(0)),
-    }
+    Refusal::Unreadable.at(0)
+}
+
+/// The counts of two readable texts, if the two name their signals alike.
+fn count_both(
+    sheet: &[u8],
+    rule: &[u8],
+    first: Census,
+    second: Census,
+) -> Result<(Census, Census), Refused>
+    requires sheet { TextCounted sheet.now first }
+    requires rule { TextCounted rule.now second }
+    ensures { Decided (Some sheet.now) (Some rule.now) result }
+{
+    match_names(sheet, rule)?;
+    Ok((first, second))
 }
 
 /// The counts of a sheet and a rule. A file that could not be read is none.
@@ -44,10 +56,13 @@ pub fn decide(
 ) -> Result<(Census, Census), Refused>
     ensures { Decided (option_map vec_items sheet.now) (option_map vec_items rule.now) result }
 {
-    let sheet = text_of(sheet).map_err(Refused::Sheet)?;
-    let first = read_census(sheet).map_err(Refused::Sheet)?;
-    let rule = text_of(rule).map_err(Refused::Rule)?;
-    let second = read_census(rule).map_err(Refused::Rule)?;
-    match_names(sheet, rule)?;
-    Ok((first, second))
+    let Some(sheet) = sheet else {
+        return Err(Refused::Sheet(unreadable()));
+    };
+    let first = read_census(sheet.as_slice()).map_err(Refused::Sheet)?;
+    let Some(rule) = rule else {
+        return Err(Refused::Rule(unreadable()));
+    };
+    let second = read_census(rule.as_slice()).map_err(Refused::Rule)?;
+    count_both(sheet.as_slice(), rule.as_slice(), first, second)
 }
