@@ -1,5 +1,5 @@
 -- How blocks are read: the state that a block describes, whether it is good, one block behind the other, and the text's end.
-use Rattle.std.proofs.Common.{◌≡◌, ℕ, ◌*◌, ◌/◌, ◌%◌, ◌^◌, ◌<◌, ◌≤◌, Bool, true, false, cond, eqb, ◌⊎◌, List, [], ◌∷◌, ◌++◌, Ok, Err, codes, Result, sym, refl, ap, ◌∙◌, inl, inr, MatchResult}
+use Rattle.std.proofs.Common.{◌≡◌, ℕ, ◌*◌, ◌/◌, ◌%◌, ◌^◌, ◌<◌, ◌≤◌, Bool, true, false, cond, eqb, ◌⊎◌, List, [], ◌∷◌, ◌++◌, Ok, Err, codes, Result, sym, refl, ap, ◌∙◌, inl, inr, arith, MatchResult}
 use lib.Bits.{bit_or}
 use Rattle.std.proofs.lemmas.Bool.{le-leb, lt-leb, eq-eqb}
 use Rattle.omega.specs.Signals.{bit}
@@ -20,10 +20,10 @@ use Rattle.hoa_grammar.specs.Verdicts.{fault_at}
 use Rattle.hoa_grammar.specs.Machine.{state, good, edges, blocks, ended, opened, due, at, stuck, goes, edges_mark, number_only, slot_step, step, initial, reading, next, verdict}
 use Rattle.hoa_grammar.specs.Reading.{Reached, Refused}
 use Rattle.hoa_grammar.proofs.Stepping.{run_last, reached_stuck}
-use Rattle.hoa_document.specs.declared.expect.Numeral.{Numeral}
+use Rattle.hoa_tokens.specs.declared.token.Read.{Read}
 use Rattle.hoa_document.specs.Standing.{Stands, NumberRead}
 use Rattle.hoa_document.specs.Drafting.{Drafted, Described, Sized, InBlock, BlockRead, BlocksRead, DocumentRead}
-use Rattle.hoa_document.proofs.Leading.{stands_there, stands_on, number_over, word_not_end, mark_not_end}
+use Rattle.hoa_document.proofs.Leading.{stands_there, stands_on, number_over, word_not_end, number_not_end, mark_not_end}
 use Rattle.hoa_document.proofs.Drafts.{drafted_plain, drafted_good, described_more}
 use Rattle.hoa_document.proofs.Slots.{second_word}
 use Rattle.hoa_document.proofs.Edges.{other_token, number_leads}
@@ -49,7 +49,7 @@ pub not_described : (text : List ℕ) (head : Placed) (n : ℕ) (bs : Row Block)
 not_described text head n bs set s described here f (inl (past, is)) = number_over text head (block_limit n bs) s here OutOfRange (out_of_range n bs set s described past) f is
 not_described text head n bs set s described here f (inr (inside, again, is)) = number_over text head (block_limit n bs) s here Repeated (repeated n bs set s described inside (eq-eqb _ 1 again)) f is
 
-pub state_read : {text : List ℕ} (h : Header) (bs : Row Block) (n : ℕ) (head : Placed) → h.states ≡ n → Reached text (at (state h bs)) head → (q : Result Numeral Fault) → NumberRead text head (block_limit n bs) q → MatchResult q (λ x. Reached text (at (good h bs x.value)) x.head) (Refused text)
+pub state_read : {text : List ℕ} (h : Header) (bs : Row Block) (n : ℕ) (head : Placed) → h.states ≡ n → Reached text (at (state h bs)) head → (q : Result (Read ℕ) Fault) → NumberRead text head (block_limit n bs) q → MatchResult q (λ x. Reached text (at (good h bs x.value)) x.head) (Refused text)
 state_read {text = text} h bs n head states r q read =
     let y : Lexeme = lexeme head.token in
     number_leads text (block_limit n bs) (λ s. at (good h bs s)) q
@@ -97,19 +97,27 @@ blocks_more n p set v h bs draft head few sized named described b = record {
 pub blocks_over : {text : List ℕ} (h : Header) (bs : Row Block) {head : Placed} → (lexeme head.token ≡ word (codes "State:") → ⊥) → Stands text (at (blocks h bs)) head → Stands text (due (word (codes "--END--") ∷ []) (ended (record { header = h; blocks = bs }))) head
 blocks_over h bs {head = head} other st = record { state = st.state; reached = st.reached; alike = st.alike ∙ second_word (codes "State:") (codes "--END--") _ _ (lexeme head.token) other }
 
+-- only the text's end is that
+is_end : (t : Token) → lexeme t ≡ end → t ≡ case.End
+is_end (case.Word w) e = absurd (word_not_end w.now e)
+is_end (case.Number n) e = absurd (number_not_end n e)
+is_end (case.Name w) e = absurd (let z : ◌≡◌ {A = ℕ} 0 1 = cc in omega arith)
+is_end (case.Mark m) e = absurd (mark_not_end m e)
+is_end case.End e = refl
+
 -- the text ends, or is refused
 module _ {text : List ℕ} (d : Document) {head : Placed} (r : Reached text (at (ended d)) head) where
-  pub text_ends : head.token ≡ case.End → DocumentRead text d
+  pub text_ends : lexeme head.token ≡ end → DocumentRead text d
   text_ends is = record {
     finds = r.before ++ found (Ok head) ∷ [];
-    cut = grown_end head.token text 0 r.from head.place head.next r.before r.grown is r.scanned;
-    runs = run_last r.before (reading initial) (found (Ok head)) ∙ ap (λ o. next o (found (Ok head))) r.runs ∙ ap (λ t. verdict (step (at (ended d)) (lexeme t)) head.place) is;
+    cut = grown_end head.token text 0 r.from head.place head.next r.before r.grown (is_end head.token is) r.scanned;
+    runs = run_last r.before (reading initial) (found (Ok head)) ∙ ap (λ o. next o (found (Ok head))) r.runs ∙ ap (λ x. verdict (step (at (ended d)) x) head.place) is;
   }
 
-  pub text_goes_on : (head.token ≡ case.End → ⊥) → Refused text (fault_at Unexpected head.place)
+  pub text_goes_on : (lexeme head.token ≡ end → ⊥) → Refused text (fault_at Unexpected head.place)
   text_goes_on on = reached_stuck r (not_taken head.token on)
     where
-      not_taken : (t : Token) → (t ≡ case.End → ⊥) → slot_step (ended d) (lexeme t) ≡ stuck
+      not_taken : (t : Token) → (lexeme t ≡ end → ⊥) → slot_step (ended d) (lexeme t) ≡ stuck
       not_taken (case.Word w) on = refl
       not_taken (case.Number n) on = refl
       not_taken (case.Name w) on = refl

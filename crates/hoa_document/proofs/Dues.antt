@@ -1,19 +1,20 @@
 -- Fixed tokens that are due: the first of them leads on to the others, and any other token is refused.
-use Rattle.std.proofs.Common.{◌≡◌, ℕ, ◌+◌, ◌<◌, ◌≤◌, Bool, true, false, cond, ◌⊎◌, List, ◌∷◌, map, length, get_or, drop, Ok, Err, Result, sym, refl, ap, subst, inl, inr, Bor, MatchResult}
+use Rattle.std.proofs.Common.{◌≡◌, ℕ, ◌+◌, ◌<◌, ◌≤◌, Bool, true, false, cond, ◌&&◌, List, ◌∷◌, map, length, get_or, drop, Result, sym, refl, ap, ◌∙◌, subst, rules, MatchResult}
+use Rattle.std.specs.List.{list_all}
+use Rattle.std.proofs.lemmas.Bool.{true≢false}
 use Rattle.std.proofs.lemmas.List.{drop_more, drop_all}
 use Rattle.hoa_tokens.specs.declared.fault.Fault.{Fault}
 use Rattle.hoa_tokens.specs.declared.fault.Refusal.TheVariants.{Unexpected}
 use Rattle.hoa_tokens.specs.declared.token.Placed.{Placed}
 use Rattle.hoa_tokens.specs.declared.token.Token.{Token}
-use Rattle.hoa_tokens.specs.declared.token.Token.TheVariants.{Name, End}
-use Rattle.hoa_tokens.specs.Scanning.{Lexeme, lexeme}
+use Rattle.hoa_tokens.specs.Faults.{fault_at}
+use Rattle.hoa_tokens.specs.Scanning.{Lexeme, end, lexeme, found, Scanned, clipped}
 use Rattle.hoa_grammar.specs.Marking.{kept}
 use Rattle.hoa_grammar.specs.Machine.{Slot, stuck, goes, due, at, step, is_token}
 use Rattle.hoa_grammar.specs.Reading.{Reached, Refused}
-use Rattle.hoa_grammar.specs.Verdicts.{fault_at}
 use Rattle.hoa_grammar.proofs.Tests.{is_token_true}
-use Rattle.hoa_document.specs.Standing.{Stands, Expected}
-use Rattle.hoa_document.proofs.Leading.{stands_there, stands_stuck}
+use Rattle.hoa_document.specs.Standing.{Stands, is_fixed}
+use Rattle.hoa_document.proofs.Leading.{stands_stuck, stands_on}
 
 other_stuck : (w x : Lexeme) (ws : List Lexeme) (k : Slot) → (x ≡ w → ⊥) → step (due (w ∷ ws) k) x ≡ stuck
 other_stuck w x ws k other = go (is_token w x) refl
@@ -22,24 +23,18 @@ other_stuck w x ws k other = go (is_token w x) refl
     go true e = absurd (other (is_token_true w x e))
     go false e = refl
 
--- the token that is due was expected
-module _ {text : List ℕ} {head : Placed} {w : Lexeme} {ws : List Lexeme} {k : Slot} (st : Stands text (due (w ∷ ws) k) head) (same : is_token w w ≡ true) where
-  first_step : step (due (w ∷ ws) k) w ≡ goes kept (due ws k)
-  first_step = ap (λ b. cond b (goes kept (due ws k)) stuck) same
+-- where this token is due
+module _ {text : List ℕ} {head : Placed} {w : Lexeme} {ws : List Lexeme} {k : Slot} (st : Stands text (due (w ∷ ws) k) head) where
+  -- it leads on to the others
+  pub due_here : is_fixed w ≡ true → lexeme head.token ≡ w → (q : Result Placed Fault) → Scanned text (clipped text head.next) (found q) → MatchResult q (Reached text (due ws k)) (Refused text)
+  due_here fixed is = stands_on st (λ e. no_end (sym is ∙ e)) (due ws k) (ap (step (due (w ∷ ws) k)) is ∙ ap (λ b. cond b (goes kept (due ws k)) stuck) fixed)
+    where
+      no_end : w ≡ end → ⊥
+      no_end e = true≢false (sym fixed ∙ ap is_fixed e)
 
-  pub expected_due : (r : Result Placed Fault) → Expected text head w r → MatchResult r (Reached text (due ws k)) (Refused text)
-  expected_due (Ok h) e = e.1 (due (w ∷ ws) k) (due ws k) first_step st
-  expected_due (Err f) (inl e) = e.1 (due (w ∷ ws) k) (due ws k) first_step st
-  expected_due (Err f) (inr e) = subst (Refused text) (sym e.1) (stands_stuck st (other_stuck w (lexeme head.token) ws k e.0))
-
--- a token that is due, known to be this one
-pub stands_due : {text : List ℕ} {head : Placed} {t u : Token} {ws : List Lexeme} {k : Slot} → t ≡ u → Reached text (due (lexeme t ∷ ws) k) head → Stands text (due (lexeme u ∷ ws) k) head
-stands_due {text = text} {head = head} {ws = ws} {k = k} e r = stands_there (subst (λ v. Reached text (due (lexeme v ∷ ws) k) head) e r)
-
--- no name and no end is ever due
-pub never_due : {text : List ℕ} {head : Placed} {t : Token} {ws : List Lexeme} {k : Slot} → ((w : Bor (List ℕ)) × (t ≡ Name w)) ⊎ (t ≡ End) → Reached text (due (lexeme t ∷ ws) k) head → Refused text (fault_at Unexpected head.place)
-never_due (inl e) r = stands_stuck (stands_due e.1 r) refl
-never_due (inr e) r = stands_stuck (stands_due e r) refl
+  -- and another is refused
+  pub due_missing : (lexeme head.token ≡ w → ⊥) → Refused text (fault_at Unexpected head.place)
+  due_missing other = stands_stuck st (other_stuck w (lexeme head.token) ws k other)
 
 module _ {text : List ℕ} {head : Placed} {k : Slot} (tokens : List Token) (i : ℕ) (r : Reached text (due (map lexeme (drop i tokens)) k) head) where
   -- of the tokens from i on, that at i is due first
@@ -49,3 +44,14 @@ module _ {text : List ℕ} {head : Placed} {k : Slot} (tokens : List Token) (i :
   -- behind the last of them nothing is due
   pub due_no_more : length tokens ≤ i → Reached text (at k) head
   due_no_more past = subst (λ ts. Reached text (due (map lexeme ts) k) head) (drop_all i tokens past) r
+
+-- of fixed tokens each is fixed
+module _ (tokens : List Token) (i : ℕ) (fixed : list_all is_fixed (map lexeme (drop i tokens)) ≡ true) (d : Token) (inside : i < length tokens) where
+  both_fixed : (is_fixed (lexeme (get_or tokens i d)) && list_all is_fixed (map lexeme (drop (i + 1) tokens))) ≡ true
+  both_fixed = subst (λ ts. list_all is_fixed (map lexeme ts) ≡ true) (drop_more tokens i d inside) fixed
+
+  pub first_fixed : is_fixed (lexeme (get_or tokens i d)) ≡ true
+  first_fixed = search (rules, both_fixed)
+
+  pub others_fixed : list_all is_fixed (map lexeme (drop (i + 1) tokens)) ≡ true
+  others_fixed = search (rules, both_fixed)

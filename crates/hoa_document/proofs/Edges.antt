@@ -17,7 +17,6 @@ use Rattle.hoa_grammar.proofs.Tests.{is_token_true}
 use Rattle.hoa_tokens.specs.declared.token.Read.{Read}
 use Rattle.hoa_labels.specs.Letters.{Means}
 use Rattle.hoa_labels.specs.Parts.{BracketedRead}
-use Rattle.hoa_document.specs.declared.expect.Numeral.{Numeral}
 use Rattle.hoa_document.specs.Standing.{Stands, NumberRead}
 use Rattle.hoa_document.specs.Drafting.{BeginsEdge, Sized, LettersRead, current, InBlock, BlockRead}
 use Rattle.hoa_document.proofs.Leading.{stands_there, stands_on, mark_not_end}
@@ -50,12 +49,12 @@ labelled_read cur p names r (Ok x) (l, means, on) = record { letters = labelled 
 labelled_read cur p names r (Err f) on = on cur names r
 
 -- a number that is read keeps its limit, and leads on
-pub number_leads : (text : List ℕ) (limit : ℕ → Limit) (go : ℕ → State) (q : Result Numeral Fault) → MatchResult q (λ t. (limit t.value ≡ kept) × Reached text (go t.value) t.head) (Refused text) → MatchResult q (λ t. Reached text (go t.value) t.head) (Refused text)
+pub number_leads : (text : List ℕ) (limit : ℕ → Limit) (go : ℕ → State) (q : Result (Read ℕ) Fault) → MatchResult q (λ t. (limit t.value ≡ kept) × Reached text (go t.value) t.head) (Refused text) → MatchResult q (λ t. Reached text (go t.value) t.head) (Refused text)
 number_leads text limit go (Ok t) h = h.1
 number_leads text limit go (Err f) h = h
 
 -- the target is read
-pub target_read : {text : List ℕ} (cur : Current) (n p : ℕ) (x : Read ℕ) → cur.header.states ≡ n → (l : LettersRead text cur p x) → (q : Result Numeral Fault) → NumberRead text x.head (state_limit n) q → MatchResult q (λ t. Reached text (at (edges (with_edge cur l.letters t.value))) t.head) (Refused text)
+pub target_read : {text : List ℕ} (cur : Current) (n p : ℕ) (x : Read ℕ) → cur.header.states ≡ n → (l : LettersRead text cur p x) → (q : Result (Read ℕ) Fault) → NumberRead text x.head (state_limit n) q → MatchResult q (λ t. Reached text (at (edges (with_edge cur l.letters t.value))) t.head) (Refused text)
 target_read {text = text} cur n p x states l q read =
     let go : ℕ → State = λ t. at (edges (with_edge cur l.letters t)) in
     let y : Lexeme = lexeme x.head.token in

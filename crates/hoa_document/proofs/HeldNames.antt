@@ -1,9 +1,11 @@
 -- The names of a header: those that the reader holds are those that it has read, and one of them in hand is repeated.
-use Rattle.std.proofs.Common.{◌≡◌, ℕ, zero, suc, ◌+◌, ◌-◌, ◌<◌, ◌≤◌, Bool, true, false, ◌||◌, ◌≢◌, List, length, set, Decides, Result, sym, refl, ap, ◌∙◌, subst, ⊎_elim, add-one, arith, Bor, MatchResult}
-use mathlib.Core.Bool.{or-true}
-use Rattle.std.proofs.lemmas.List.{get_or-set_same, get_or-set_other}
-use Rattle.std.proofs.lemmas.Bool.{cases_eq}
-use Rattle.std.proofs.lemmas.Bool.Decides.{not_from_Decides}
+use Rattle.std.proofs.Common.{◌≡◌, ℕ, zero, suc, ◌+◌, ◌-◌, ◌<◌, ◌≤◌, Bool, true, false, ◌||◌, List, length, take, Result, sym, refl, ap, ◌∙◌, subst, add-one, arith, Bor, MatchResult}
+use Rattle.std.specs.List.{list_any}
+use Rattle.std.specs.Str.{bytes_eq}
+use mathlib.Core.Bool.{or_comm}
+use Rattle.std.proofs.lemmas.List.{length-take}
+use Rattle.std.proofs.lemmas.List.Folds.{list_any_more}
+use Rattle.std.proofs.lemmas.Slice.Eq.{bytes_eq-Decides}
 use Rattle.hoa_tokens.specs.declared.fault.Fault.{Fault}
 use Rattle.hoa_tokens.specs.declared.fault.Refusal.TheVariants.{Unexpected, Repeated}
 use Rattle.hoa_tokens.specs.declared.token.Placed.{Placed}
@@ -17,62 +19,35 @@ use Rattle.hoa_grammar.specs.Reading.{Reached, Refused}
 use Rattle.hoa_grammar.specs.Verdicts.{fault_at}
 use Rattle.hoa_grammar.proofs.Tests.{alike_true, alike_refl}
 use Rattle.hoa_grammar.proofs.Stepping.{reached_on, reached_stuck, reached_broken}
+use Rattle.hoa_document.specs.declared.names.Names.{Names}
 use Rattle.hoa_document.specs.Naming.{name_at, first_names}
 use Rattle.hoa_document.proofs.Leading.{breaks_where, keeps_where}
 
--- two names are the same bytes as a comparison says
-alike_is : (v w : List ℕ) (r : Bool) → Decides r (v ≡ w) → alike w v ≡ r
-alike_is v w true d = subst (λ u. alike w u ≡ true) (sym (d.0 refl)) (alike_refl w)
-alike_is v w false d = go (alike w v) refl
+-- a name is the one that a comparison finds
+alike_is : (v w : List ℕ) → alike w v ≡ bytes_eq v w
+alike_is v w = go (alike w v) (bytes_eq v w) refl refl
   where
-    go : (b : Bool) → alike w v ≡ b → b ≡ false
-    go true e = absurd (not_from_Decides false d refl (sym (alike_true w v e)))
-    go false e = refl
+    go : (a b : Bool) → alike w v ≡ a → bytes_eq v w ≡ b → a ≡ b
+    go true true p q = refl
+    go false false p q = refl
+    go true false p q = sym (sym q ∙ (bytes_eq-Decides v w).1 (sym (alike_true w v p)))
+    go false true p q = sym p ∙ subst (λ u. alike w u ≡ true) (sym ((bytes_eq-Decides v w).0 q)) (alike_refl w)
 
 module _ (held : List (Bor (List ℕ))) where
   pub size_first : (i : ℕ) → size (first_names held i) ≡ i
   size_first zero = refl
   size_first (suc i) = omega (arith, size_first i)
 
-  -- a name that passes the test is among the first m of them
-  some_first : (test : List ℕ → Bool) (i m : ℕ) → i < m → test (name_at held i) ≡ true → some test (first_names held m) ≡ true
-  some_first test i zero inside e = absurd (omega arith)
-  some_first test i (suc m) inside e =
-      ⊎_elim
-      (λ same. ap (λ b. b || some test (first_names held m)) (ap (λ j. test (name_at held j)) (sym same) ∙ e))
-      (λ other. rw (some_first test i m (omega arith) e) (or-true (test (name_at held m))))
-      (cases_eq i m)
+  -- one of the first m names is w
+  pub any_held : (w : List ℕ) (m : ℕ) → m ≤ length held → list_any (λ v. bytes_eq v.now w) (take m held) ≡ some (alike w) (first_names held m)
+  any_held w zero inside = refl
+  any_held w (suc m) inside =
+      let more : list_any (λ v. bytes_eq v.now w) (take (suc m) held) ≡ (list_any (λ v. bytes_eq v.now w) (take m held) || bytes_eq (name_at held m) w) = rw (← add-one m) (list_any_more (λ v. bytes_eq v.now w) held m _ (omega arith)) in
+      more ∙ ap (λ b. b || bytes_eq (name_at held m) w) (any_held w m (omega arith)) ∙ or_comm (some (alike w) (first_names held m)) (bytes_eq (name_at held m) w) ∙ ap (λ b. b || some (alike w) (first_names held m)) (sym (alike_is (name_at held m) w))
 
-  -- a name that was found among them is repeated
-  pub name_found : (w : List ℕ) (i m : ℕ) → i < m → Decides true (name_at held i ≡ w) → true ≡ some (alike w) (first_names held m)
-  name_found w i m before same = sym (some_first (alike w) i m before (alike_is (name_at held i) w true same))
-
-  -- a name that is none of the first i, nor the next, is none of those
-  pub name_new : (w : List ℕ) (i : ℕ) → Decides false (name_at held i ≡ w) → some (alike w) (first_names held i) ≡ false → some (alike w) (first_names held (i + 1)) ≡ false
-  name_new w i other new = rw (add-one, alike_is (name_at held i) w false other) new
-
-  -- a name that is written, and the others
-  name_written : (i : ℕ) (w : Bor (List ℕ)) → i < length held → name_at (set held i w) i ≡ w.now
-  name_written i w inside = ap (λ r. r.now) (get_or-set_same held i w _ inside)
-
-  name_kept : (i j : ℕ) (w : Bor (List ℕ)) → j ≢ i → name_at (set held i w) j ≡ name_at held j
-  name_kept i j w ne = ap (λ r. r.now) (get_or-set_other held i j w _ ne)
-
-  -- writing at i leaves the first i as they were
-  first_kept : (i j : ℕ) (w : Bor (List ℕ)) → j ≤ i → first_names (set held i w) j ≡ first_names held j
-  first_kept i zero w low = refl
-  first_kept i (suc j) w low =
-      let ne : j ≢ i = omega arith in
-      let before = first_kept i j w (omega arith) in
-      let last = name_kept i j w ne in
-      cc
-
-  -- a name is held behind the first i
-  pub name_held : (i : ℕ) (w : Bor (List ℕ)) → i < length held → first_names (set held i w) (i + 1) ≡ more (first_names held i) w.now
-  name_held i w inside =
-      let before = first_kept i i w (omega arith) in
-      let last = name_written i w inside in
-      rw add-one (cc)
+-- names whose slice is as long as their count are all held
+pub all_held : (x : Names) {xs : List (Bor (List ℕ))} → xs ≡ take x.count x.list → length xs ≡ x.count → x.count ≤ length x.list
+all_held x part long = omega (arith, long, ap length part, length-take x.count x.list)
 
 -- one more name may come where i of them are read
 module _ {text : List ℕ} {head : Placed} {n : ℕ} {row : Row ℕ} {ws : Row (List ℕ)} (i signals : ℕ) (inside : i < signals) (r : Reached text (at (names n row ws (signals - i))) head) where

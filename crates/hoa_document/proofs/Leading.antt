@@ -1,21 +1,17 @@
 -- How reading goes on where the machine stands as in some state: the token in hand leads on, is not allowed, or breaks a limit.
-use Rattle.std.proofs.Common.{◌≡◌, ℕ, Bool, true, false, List, Ok, Err, Result, sym, refl, ap, ◌∙◌, subst, inl, arith, MatchResult}
+use Rattle.std.proofs.Common.{◌≡◌, ℕ, Bool, true, false, List, Ok, Err, Result, sym, refl, ap, ◌∙◌, subst, arith, MatchResult}
 use Rattle.hoa_tokens.specs.declared.fault.Fault.{Fault}
 use Rattle.hoa_tokens.specs.declared.fault.Refusal.{Refusal}
 use Rattle.hoa_tokens.specs.declared.fault.Refusal.TheVariants.{Unexpected}
 use Rattle.hoa_tokens.specs.declared.token.Mark.{Mark}
 use Rattle.hoa_tokens.specs.declared.token.Placed.{Placed}
+use Rattle.hoa_tokens.specs.Faults.{fault_at}
 use Rattle.hoa_tokens.specs.Scanning.{Lexeme, word, number, name, mark, end, lexeme, found, Scanned, clipped}
 use Rattle.hoa_grammar.specs.Marking.{Limit, kept, broken, breaks_if}
 use Rattle.hoa_grammar.specs.Machine.{State, Step, stuck, goes, step, number_only}
 use Rattle.hoa_grammar.specs.Reading.{Reached, Refused}
-use Rattle.hoa_grammar.specs.Verdicts.{fault_at, layer_of}
 use Rattle.hoa_grammar.proofs.Stepping.{reached_on, reached_stuck, reached_broken}
-use Rattle.hoa_document.specs.Standing.{Stands, Expected, NumberRead}
-
--- a fault is known by its parts
-pub same_fault : (f : Fault) (r : Refusal) (place : ℕ) → f.refusal ≡ r → f.place ≡ place → f.layer ≡ layer_of r → f ≡ fault_at r place
-same_fault f r place p q l i = record { refusal = p i; place = q i; layer = l i }
+use Rattle.hoa_document.specs.Standing.{Stands, NumberRead}
 
 -- a limit with one test is broken where the test is true, and kept where it is false
 pub breaks_where : (test : Bool) (r : Refusal) → test ≡ true → breaks_if test r kept ≡ broken r
@@ -37,13 +33,6 @@ module _ {text : List ℕ} {s : State} {head : Placed} (st : Stands text s head)
 
   pub stands_on : (lexeme head.token ≡ end → ⊥) → (s' : State) → step s (lexeme head.token) ≡ goes kept s' → (q : Result Placed Fault) → Scanned text (clipped text head.next) (found q) → MatchResult q (Reached text s') (Refused text)
   stands_on more s' is = reached_on st.reached (λ e. more (ap lexeme e)) s' (st.alike ∙ is)
-
--- the token that has to come is in hand, and what is behind it is scanned
-pub expected_here : (text : List ℕ) (head : Placed) (x : Lexeme) → lexeme head.token ≡ x → (x ≡ end → ⊥) → (q : Result Placed Fault) → Scanned text (clipped text head.next) (found q) → Expected text head x q
-expected_here text head x is more (Ok h) scanned =
-    (is, λ s s' on st. stands_on st (λ e. more (sym is ∙ e)) s' (ap (step s) is ∙ on) (Ok h) scanned)
-expected_here text head x is more (Err f) scanned =
-    inl (is, λ s s' on st. stands_on st (λ e. more (sym is ∙ e)) s' (ap (step s) is ∙ on) (Err f) scanned)
 
 -- words, numbers and marks are not the text's end
 pub word_not_end : (w : List ℕ) → word w ≡ end → ⊥

@@ -10,7 +10,7 @@ use Rattle.hoa_grammar.specs.Documents.{alike, infinitely_often}
 use Rattle.hoa_grammar.specs.Machine.{State, stuck, goes, due, at, starts, signals, names, blocks, header_of, step, word_only, is_token, initial}
 use Rattle.hoa_grammar.specs.Reading.{Reached, Refused}
 use Rattle.hoa_grammar.proofs.Tests.{alike_true}
-use Rattle.hoa_document.specs.declared.expect.Numeral.{Numeral}
+use Rattle.hoa_tokens.specs.declared.token.Read.{Read}
 use Rattle.hoa_document.specs.Standing.{Stands}
 use Rattle.hoa_document.proofs.Leading.{stands_there, stands_on, word_not_end}
 
@@ -48,6 +48,6 @@ module _ {text : List ℕ} {head : Placed} {n : ℕ} {row : Row ℕ} where
   acceptance_named {ws = ws} is r = stands_on (stands_there r) (λ e. word_not_end (codes "acc-name:") (sym is ∙ e)) _ (ap (step (at (names n row ws 0))) is)
 
 -- a count that was read is not above its limit
-pub count_within : (text : List ℕ) (most : ℕ) (limit : ℕ → Limit) (go : ℕ → State) (r : Result Numeral Fault) → IfOk r (λ x. x.value ≤ most) → MatchResult r (λ x. (limit x.value ≡ kept) × Reached text (go x.value) x.head) (Refused text) → MatchResult r (λ x. (x.value ≤ most) × Reached text (go x.value) x.head) (Refused text)
+pub count_within : (text : List ℕ) (most : ℕ) (limit : ℕ → Limit) (go : ℕ → State) (r : Result (Read ℕ) Fault) → IfOk r (λ x. x.value ≤ most) → MatchResult r (λ x. (limit x.value ≡ kept) × Reached text (go x.value) x.head) (Refused text) → MatchResult r (λ x. (x.value ≤ most) × Reached text (go x.value) x.head) (Refused text)
 count_within text most limit go (Ok x) few read = (few, read.1)
 count_within text most limit go (Err f) few read = read

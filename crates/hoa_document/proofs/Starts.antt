@@ -13,7 +13,7 @@ use Rattle.hoa_grammar.specs.Machine.{at, starts, start, step}
 use Rattle.hoa_grammar.specs.Reading.{Reached, Refused}
 use Rattle.tables.proofs.Bits.{bit_past, bit-or, bit_power}
 use Rattle.tables.proofs.Added.{state_added_in}
-use Rattle.hoa_document.specs.declared.expect.Numeral.{Numeral}
+use Rattle.hoa_tokens.specs.declared.token.Read.{Read}
 use Rattle.hoa_document.specs.Standing.{NumberRead}
 use Rattle.hoa_document.specs.Drafting.{InRow}
 use Rattle.hoa_document.proofs.Leading.{stands_there, stands_on, word_not_end}
@@ -41,10 +41,10 @@ module _ {text : List ℕ} {n set : ℕ} {head : Placed} (r : StartsRead text n 
     start_due = stands_on (stands_there r.reached) (λ e. word_not_end (codes "Start:") (sym is ∙ e)) (at (start n r.row)) (ap (step (at (starts n r.row))) is)
 
     -- and the state that is read there is one
-    pub start_read : (b : Placed) → Scanned text (clipped text head.next) (found (Ok b)) → (q : Result Numeral Fault) → NumberRead text b (state_limit n) q → MatchResult q (λ x. Reached text (at (starts n (more r.row x.value))) x.head) (Refused text)
+    pub start_read : (b : Placed) → Scanned text (clipped text head.next) (found (Ok b)) → (q : Result (Read ℕ) Fault) → NumberRead text b (state_limit n) q → MatchResult q (λ x. Reached text (at (starts n (more r.row x.value))) x.head) (Refused text)
     start_read b scanned q read = MatchResult-weaker q (read (at (start n r.row)) (λ s. at (starts n (more r.row s))) refl (stands_there (start_due (Ok b) scanned))) (λ x p. p.1) (λ f p. p)
 
-  pub one_start_more : (x : Numeral) → n ≤ 64 → x.value < n → Reached text (at (starts n (more r.row x.value))) x.head → StartsRead text n (bit_or set ((1 * 2 ^ x.value) % 2 ^ 64)) x.head
+  pub one_start_more : (x : Read ℕ) → n ≤ 64 → x.value < n → Reached text (at (starts n (more r.row x.value))) x.head → StartsRead text n (bit_or set ((1 * 2 ^ x.value) % 2 ^ 64)) x.head
   one_start_more x few inside reached = record {
     row = more r.row x.value;
     reached = reached;

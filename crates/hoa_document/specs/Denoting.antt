@@ -11,8 +11,8 @@ use Rattle.hoa_tokens.specs.Cuts.{Cut}
 use Rattle.hoa_grammar.specs.Rows.{size}
 use Rattle.hoa_grammar.specs.Documents.{Document, is_start, is_good, is_step}
 use Rattle.hoa_grammar.specs.Verdicts.{Writes, FirstFault}
-use Rattle.hoa_document.specs.declared.header.Names.{Names}
-use Rattle.hoa_document.specs.Naming.{first_names}
+use Rattle.hoa_document.specs.declared.names.Names.{Names}
+use Rattle.hoa_document.specs.Naming.{row_of}
 
 -- the automaton is the one that the document means
 pub record Denotes (d : Document) (A : Meaning) : Type 0 where
@@ -39,7 +39,7 @@ draft_meaning x = table x.states x.signals x.starts x.goods x.cells
 
 -- the text writes a document, and these are its names
 abbrev pub TextNames : List ℕ → Names → Type 0
-TextNames text x = (d : Document) × TextWrites text d × (d.header.names ≡ first_names x.list x.count)
+TextNames text x = (d : Document) × TextWrites text d × (d.header.names ≡ row_of x)
 
 -- the text is refused: it is too long, or else this is its first fault
 pub data TextRefused (text : List ℕ) : Fault → Type 0 where

@@ -3,17 +3,17 @@ use Rattle.std.specs.Prelude.{◌≡◌, ℕ, ◌+◌, ◌*◌, ◌^◌, ◌<◌
 use Rattle.omega.specs.Signals.{bit}
 use Rattle.tables.specs.declared.draft.Draft.{Draft}
 use Rattle.hoa_tokens.specs.declared.token.Placed.{Placed}
+use Rattle.hoa_tokens.specs.declared.token.Read.{Read}
 use Rattle.hoa_tokens.specs.declared.token.Mark.TheVariants.{OpenBracket}
 use Rattle.hoa_tokens.specs.Scanning.{number, mark, lexeme, Found}
 use Rattle.hoa_tokens.specs.Cuts.{Cut}
 use Rattle.hoa_grammar.specs.Rows.{Row, none, more, some, size}
-use Rattle.hoa_grammar.specs.Documents.{Header, Block, Letters, Document, most_states, most_signals, letters_hold, block_steps}
+use Rattle.hoa_grammar.specs.Documents.{Header, Block, Letters, Document, most_states, letters_hold, block_steps}
 use Rattle.hoa_grammar.specs.Machine.{Current, blocks, edges, done, State, at, step, number_only, edge_to, header_of, initial, reading, run}
 use Rattle.hoa_grammar.specs.Reading.{Reached}
-use Rattle.hoa_tokens.specs.declared.token.Read.{Read}
 use Rattle.hoa_labels.specs.Letters.{Means}
 use Rattle.hoa_document.specs.declared.header.Heading.{Heading}
-use Rattle.hoa_document.specs.Naming.{first_names}
+use Rattle.hoa_document.specs.Naming.{row_of}
 use Rattle.hoa_document.specs.Standing.{Stands}
 
 -- bit s of a set says whether s is in the row
@@ -82,14 +82,13 @@ pub record BlocksRead (text : List ℕ) (n p : ℕ) (names : Row (List ℕ)) (se
   pub stands : Stands text (at (blocks header rows)) head
 
 -- the header is read: it is the one of these states, starts and names, and the first block is due
-pub record HeaderRead (text : List ℕ) (x : Heading) : Type 0 where
-  pub few : x.states ≤ most_states
-  pub narrow : x.names.count ≤ most_signals
+pub record HeaderRead (text : List ℕ) (x : Read Heading) : Type 0 where
+  pub few : x.value.states ≤ most_states
   pub row : Row ℕ
-  pub started : InRow x.starts row
-  pub within : x.starts < 2 ^ x.states
+  pub started : InRow x.value.starts row
+  pub within : x.value.starts < 2 ^ x.value.states
   pub told : Bool
-  pub reached : Reached text (at (blocks (header_of x.states row (first_names x.names.list x.names.count) told) none)) x.head
+  pub reached : Reached text (at (blocks (header_of x.value.states row (row_of x.value.names) told) none)) x.head
 
 -- the whole text is read, and this is the document that it writes
 pub record DocumentRead (text : List ℕ) (d : Document) : Type 0 where

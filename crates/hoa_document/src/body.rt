@@ -7,17 +7,15 @@ ghost use Rattle.hoa_grammar.specs.Documents.{Header, Block, Document, most_stat
 ghost use Rattle.hoa_grammar.specs.Machine.{Current, at, state as state_slot, good as good_slot, blocks as blocks_slot, edges as edges_slot};
 ghost use Rattle.hoa_grammar.specs.Reading.{Reached, Refused};
 ghost use Rattle.hoa_grammar.specs.Rows.{Row, size};
-ghost use Rattle.hoa_grammar.specs.Verdicts.{fault_at};
+ghost use Rattle.hoa_tokens.specs.Faults.{fault_at};
 ghost use Rattle.hoa_document.specs.Drafting.{Described, Drafted, BeginsEdge, Sized, LettersRead, InBlock, SomeBlock, BlockRead, BlocksRead, HeaderRead, DocumentRead};
-ghost use Rattle.hoa_document.specs.Naming.{first_names};
+ghost use Rattle.hoa_document.specs.Naming.{row_of};
 ghost use Rattle.hoa_document.specs.Standing.{Stands};
 
-use crate::expect::{
-    Numeral, expect_all, expect_word, is_mark, is_word, number, state, unexpected,
-};
+use crate::expect::{expect, expect_all, is_token, number, state};
 use crate::header::Heading;
 use hoa_labels::{Signals, read_label};
-use hoa_tokens::{Fault, Layer, Mark, Placed, Read, Refusal, Text, Token};
+use hoa_tokens::{Fault, Mark, Placed, Read, Refusal, Text, Token};
 use tables::Draft;
 
 /// The letters of an edge, and its target in hand: those of its label, or all.
@@ -29,7 +27,7 @@ fn read_letters<'a>(
     requires { BeginsEdge head }
     ensures { (cur : Current) → size cur.header.names ≡ signals.count → Stands text.entry.bytes.now (at (edges_slot cur)) head.entry → MatchResult result (LettersRead text.entry.bytes.now cur signals.count) (Refused text.entry.bytes.now) }
 {
-    if is_mark(&head, Mark::OpenBracket) {
+    if is_token(&head, Token::Mark(Mark::OpenBracket)) {
         let behind = text.scan(head.next)?;
         return read_label(text, behind, signals);
     }
@@ -44,11 +42,10 @@ fn begins_edge(head: &Placed<'_>) -> bool
     ensures is { result ≡ true → BeginsEdge head.now }
     ensures other { result ≡ false → BeginsEdge head.now → ⊥ }
 {
-    match head.token {
-        Token::Number(_) => true,
-        Token::Mark(mark) => mark.sign() == Mark::OpenBracket.sign(),
-        _ => false,
-    }
+    matches!(
+        head.token,
+        Token::Number(_) | Token::Mark(Mark::OpenBracket)
+    )
 }
 
 /// The edges of a block, each of which is added to the draft.
@@ -86,7 +83,7 @@ fn read_good<'a>(
 ) -> Result<Placed<'a>, Fault>
     ensures { (h : Header) (bs : Row Block) → Drafted h bs draft.old → from < h.states → Reached text.entry.bytes.now (at (good_slot h bs from)) head.entry → MatchResult result (λ x. (b : Block) × InBlock text.entry.bytes.now h bs b from draft.new x) (Refused text.entry.bytes.now) }
 {
-    if !is_mark(&head, Mark::OpenBrace) {
+    if !is_token(&head, Token::Mark(Mark::OpenBrace)) {
         return Ok(head);
     }
     let zero = text.scan(head.next)?;
@@ -105,18 +102,10 @@ fn check_described(value: u32, states: u32, described: u64, place: usize) -> Res
     ensures { MatchResult result (λ _. (value < states) × (described / 2 ^ value % 2 ≢ 1)) (λ f. ((states ≤ value) × (f ≡ fault_at OutOfRange place)) ⊎ ((value < states) × (described / 2 ^ value % 2 ≡ 1) × (f ≡ fault_at Repeated place))) }
 {
     if value >= states {
-        return Err(Fault {
-            refusal: Refusal::OutOfRange,
-            place,
-            layer: Layer::Meaning,
-        });
+        return Err(Refusal::OutOfRange.at(place));
     }
     if (described >> value) % 2 == 1 {
-        return Err(Fault {
-            refusal: Refusal::Repeated,
-            place,
-            layer: Layer::Meaning,
-        });
+        return Err(Refusal::Repeated.at(place));
     }
     Ok(())
 }
@@ -135,35 +124,32 @@ fn read_described<'a>(
     head: Placed<'a>,
     states: u32,
     described: u64,
-) -> Result<Numeral<'a>, Fault>
+) -> Result<Read<'a, u32>, Fault>
     requires { states ≤ most_states }
     ensures read { (h : Header) (bs : Row Block) → h.states ≡ states → Described bs described → Reached text.entry.bytes.now (at (state_slot h bs)) head.entry → MatchResult result (λ x. Reached text.entry.bytes.now (at (good_slot h bs x.value)) x.head) (Refused text.entry.bytes.now) }
     ensures fresh { IfOk result (λ x. (x.value < states) × (bit x.value described ≡ false)) }
 {
     let value = number(&head)?;
     check_described(value, states, described, head.place)?;
-    let behind = text.scan(head.next)?;
-    Ok(Numeral {
-        value,
-        head: behind,
-    })
+    let head = text.scan(head.next)?;
+    Ok(Read { value, head })
 }
 
 /// All blocks behind a header.
 fn read_blocks<'a>(
     text: Text<'a>,
-    header: Heading<'a>,
+    header: Read<'a, Heading<'a>>,
     signals: Signals,
     draft: &mut Draft,
 ) -> Result<Placed<'a>, Fault>
-    requires few { header.states ≤ most_states }
-    requires none { BlocksRead text.bytes.now header.states signals.count (first_names header.names.list header.names.count) 0 draft.old header.head }
-    ensures { MatchResult result (λ x. (lexeme x.token ≡ word (codes "State:") → ⊥) × ((set : ℕ) × BlocksRead text.entry.bytes.now header.entry.states signals.count (first_names header.entry.names.list header.entry.names.count) set draft.new x)) (Refused text.entry.bytes.now) }
+    requires few { header.value.states ≤ most_states }
+    requires none { BlocksRead text.bytes.now header.value.states signals.count (row_of header.value.names) 0 draft.old header.head }
+    ensures { MatchResult result (λ x. (lexeme x.token ≡ word (codes "State:") → ⊥) × ((set : ℕ) × BlocksRead text.entry.bytes.now header.entry.value.states signals.count (row_of header.entry.value.names) set draft.new x)) (Refused text.entry.bytes.now) }
 {
-    let states = header.states;
+    let states = header.value.states;
     let mut head = header.head;
     let mut described = 0u64;
-    while is_word(&head, b"State:") {
+    while is_token(&head, Token::Word(b"State:")) {
         let behind = text.scan(head.next)?;
         let from = read_described(text, behind, states, described)?;
         let edges = read_good(text, from.head, from.value, draft)?;
@@ -178,22 +164,26 @@ fn read_end<'a>(text: Text<'a>, head: Placed<'a>) -> Result<(), Fault>
     requires { lexeme head.token ≡ word (codes "State:") → ⊥ }
     ensures { (h : Header) (rows : Row Block) → Stands text.entry.bytes.now (at (blocks_slot h rows)) head.entry → MatchResult result (λ _. DocumentRead text.entry.bytes.now (record { header = h; blocks = rows })) (Refused text.entry.bytes.now) }
 {
-    let last = expect_word(text, head, b"--END--")?;
-    let Token::End = last.token else {
-        return Err(unexpected(last.place));
-    };
+    let last = expect(text, head, Token::Word(b"--END--"))?;
+    if !is_token(&last, Token::End) {
+        return Err(Refusal::Unexpected.at(last.place));
+    }
     Ok(())
 }
 
 /// The body behind a header, and the table that the two mean, as a draft.
-pub(crate) fn read_body<'a>(text: Text<'a>, header: Heading<'a>) -> Result<Draft, Fault>
+pub(crate) fn read_body<'a>(text: Text<'a>, header: Read<'a, Heading<'a>>) -> Result<Draft, Fault>
     requires { HeaderRead text.bytes.now header }
-    ensures { MatchResult result (λ draft. (d : Document) × DocumentRead text.entry.bytes.now d × Drafted d.header d.blocks draft × (d.header.names ≡ first_names header.entry.names.list header.entry.names.count)) (Refused text.entry.bytes.now) }
+    ensures { MatchResult result (λ draft. (d : Document) × DocumentRead text.entry.bytes.now d × Drafted d.header d.blocks draft × (d.header.names ≡ row_of header.entry.value.names)) (Refused text.entry.bytes.now) }
 {
-    let count = header.names.count;
-    let signals = Signals::new(count).unwrap();
-    let mut draft = Draft::new(header.states, count).unwrap();
-    draft.add_starts(header.starts);
+    let Heading {
+        states,
+        starts,
+        names,
+    } = header.value;
+    let signals = Signals::new(names.count).unwrap();
+    let mut draft = Draft::new(states, names.count).unwrap();
+    draft.add_starts(starts);
     let head = read_blocks(text, header, signals, &mut draft)?;
     read_end(text, head)?;
     Ok(draft)

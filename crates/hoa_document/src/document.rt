@@ -1,20 +1,20 @@
 //! The two things that a text says.
-ghost use Rattle.std.specs.Prelude.{◌≡◌, ◌≤◌, length, IfOk, MatchResult};
+ghost use Rattle.std.specs.Prelude.{◌≡◌, ◌≤◌, length, MatchResult};
 ghost use Rattle.hoa_tokens.specs.Numbers.{longest_text};
-ghost use Rattle.hoa_grammar.specs.Documents.{most_signals};
 ghost use Rattle.hoa_document.specs.Denoting.{TextDenotes, TextNames, TextRefused, SaysOne, draft_meaning};
 ghost use Rattle.hoa_document.specs.Drafting.{HeaderRead};
 
 use crate::body::read_body;
-use crate::header::{Heading, Names, read_header};
-use hoa_tokens::{Fault, Text};
+use crate::header::{Heading, read_header};
+use crate::names::Names;
+use hoa_tokens::{Fault, Read, Text};
 use tables::Draft;
 
 /// A text, and what its header says.
 #[derive(Clone, Copy)]
 struct Begun<'a> {
     text: Text<'a>,
-    header: Heading<'a>,
+    header: Read<'a, Heading<'a>>,
 }
 
 /// The text with its header read, if it is not too long.
@@ -37,10 +37,9 @@ pub fn read_draft(bytes: &[u8]) -> Result<Draft, Fault>
 
 /// The names of the text's document; or why the text is refused, for whatever fault.
 pub fn read_names(bytes: &[u8]) -> Result<Names<'_>, Fault>
-    ensures names { MatchResult result (TextNames bytes.now) (TextRefused bytes.now) }
-    ensures few { IfOk result (λ x. x.count ≤ most_signals) }
+    ensures { MatchResult result (TextNames bytes.now) (TextRefused bytes.now) }
 {
     let begun = begin(bytes)?;
     read_body(begun.text, begun.header)?;
-    Ok(begun.header.names)
+    Ok(begun.header.value.names)
 }

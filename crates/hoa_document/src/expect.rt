@@ -1,106 +1,40 @@
 //! Tokens that have to come next.
-ghost use Rattle.std.specs.Prelude.{◌≡◌, ℕ, ◌<◌, ◌≤◌, true, false, List, ◌∷◌, map, IfOk, Ok, MatchResult, ◌≢◌, nat_lt};
-ghost use Rattle.hoa_tokens.specs.declared.fault.Layer.TheVariants.{Meaning};
+//!
+//! The text and its token in hand stay two parameters: of a struct of both each contract would have to say that its text is still the same.
+ghost use Rattle.std.specs.Prelude.{◌≡◌, ℕ, ◌<◌, ◌≤◌, ◌↔◌, IsTrue, List, ◌∷◌, map, IfOk, Ok, MatchResult, ◌≢◌, nat_lt};
+ghost use Rattle.std.specs.List.{list_all};
 ghost use Rattle.hoa_tokens.specs.declared.fault.Refusal.TheVariants.{Unexpected, TooMany};
-ghost use Rattle.hoa_tokens.specs.Scanning.{Lexeme, word as word_of, number as number_of, mark as mark_of, lexeme, found, Ahead, clipped};
+ghost use Rattle.hoa_tokens.specs.Faults.{fault_at};
+ghost use Rattle.hoa_tokens.specs.Scanning.{Lexeme, number as number_of, lexeme, found, Ahead, clipped};
 ghost use Rattle.hoa_grammar.specs.Documents.{state_limit};
 ghost use Rattle.hoa_grammar.specs.Marking.{breaks_if, kept};
 ghost use Rattle.hoa_grammar.specs.Machine.{Slot, due, at};
 ghost use Rattle.hoa_grammar.specs.Reading.{Reached, Refused};
-ghost use Rattle.hoa_grammar.specs.Verdicts.{fault_at};
-ghost use Rattle.hoa_document.specs.Standing.{Expected, NumberRead};
+ghost use Rattle.hoa_document.specs.Standing.{Stands, is_fixed, NumberRead};
 
-use hoa_tokens::{Fault, Layer, Mark, Placed, Refusal, Text, Token};
+use hoa_tokens::{Fault, Placed, Read, Refusal, Text, Token};
 
-/// A number of the text, and the token behind it.
-#[derive(Clone, Copy)]
-pub(crate) struct Numeral<'a> {
-    pub value: u32,
-    pub head: Placed<'a>,
-}
-
-/// The fault of a token that is not allowed where it stands.
-pub(crate) fn unexpected(place: usize) -> Fault
-    ensures { result ≡ fault_at Unexpected place }
+/// Whether the token in hand is this one.
+// The test has a contract of its own, since the proof of a long function does not get through `==` of tokens.
+pub(crate) fn is_token(head: &Placed<'_>, token: Token<'_>) -> bool
+    ensures { IsTrue result ↔ (lexeme head.now.token ≡ lexeme token.entry) }
 {
-    Fault {
-        refusal: Refusal::Unexpected,
-        place,
-        layer: Layer::Grammar,
-    }
+    head.token == token
 }
 
-/// A fault of the meaning.
-pub(crate) fn broken(refusal: Refusal, place: usize) -> Fault
-    ensures { (result.refusal ≡ refusal) × (result.place ≡ place) × (result.layer ≡ Meaning) }
-{
-    Fault {
-        refusal,
-        place,
-        layer: Layer::Meaning,
-    }
-}
-
-/// Whether the token in hand is this word.
-pub(crate) fn is_word(head: &Placed<'_>, word: &[u8]) -> bool
-    ensures is { result ≡ true → lexeme head.now.token ≡ word_of word.now }
-    ensures other { result ≡ false → lexeme head.now.token ≢ word_of word.now }
-{
-    if let Token::Word(w) = head.token {
-        return w == word;
-    }
-    false
-}
-
-/// Whether the token in hand is this mark.
-pub(crate) fn is_mark(head: &Placed<'_>, mark: Mark) -> bool
-    ensures is { result ≡ true → lexeme head.now.token ≡ mark_of mark }
-    ensures other { result ≡ false → lexeme head.now.token ≢ mark_of mark }
-{
-    if let Token::Mark(m) = head.token {
-        return m.sign() == mark.sign();
-    }
-    false
-}
-
-/// The token behind a word that has to be in hand.
-pub(crate) fn expect_word<'a>(
+/// The token behind one that is due, which is no name and not the text's end.
+pub(crate) fn expect<'a>(
     text: Text<'a>,
     head: Placed<'a>,
-    word: &[u8],
+    token: Token<'_>,
 ) -> Result<Placed<'a>, Fault>
-    ensures { Expected text.entry.bytes.now head.entry (word_of word.now) result }
+    requires { IsTrue (is_fixed (lexeme token)) }
+    ensures { (ws : List Lexeme) (k : Slot) → Stands text.entry.bytes.now (due (lexeme token.entry ∷ ws) k) head.entry → MatchResult result (Reached text.entry.bytes.now (due ws k)) (Refused text.entry.bytes.now) }
 {
-    if !is_word(&head, word) {
-        return Err(unexpected(head.place));
+    if !is_token(&head, token) {
+        return Err(Refusal::Unexpected.at(head.place));
     }
     text.scan(head.next)
-}
-
-/// The token behind a mark that has to be in hand.
-pub(crate) fn expect_mark<'a>(
-    text: Text<'a>,
-    head: Placed<'a>,
-    mark: Mark,
-) -> Result<Placed<'a>, Fault>
-    ensures { Expected text.entry.bytes.now head.entry (mark_of mark) result }
-{
-    if !is_mark(&head, mark) {
-        return Err(unexpected(head.place));
-    }
-    text.scan(head.next)
-}
-
-/// The token behind one that is due.
-fn expect_token<'a>(text: Text<'a>, head: Placed<'a>, token: Token<'_>) -> Result<Placed<'a>, Fault>
-    ensures { (ws : List Lexeme) (k : Slot) → Reached text.entry.bytes.now (due (lexeme token.entry ∷ ws) k) head.entry → MatchResult result (Reached text.entry.bytes.now (due ws k)) (Refused text.entry.bytes.now) }
-{
-    match token {
-        Token::Word(w) => expect_word(text, head, w),
-        Token::Number(n) => expect_number(text, head, n),
-        Token::Mark(m) => expect_mark(text, head, m),
-        Token::Name(_) | Token::End => Err(unexpected(head.place)),
-    }
 }
 
 /// The token behind those that are due, one behind the other.
@@ -109,11 +43,12 @@ pub(crate) fn expect_all<'a>(
     head: Placed<'a>,
     tokens: &[Token<'_>],
 ) -> Result<Placed<'a>, Fault>
+    requires { IsTrue (list_all is_fixed (map lexeme tokens.now)) }
     ensures { (k : Slot) → Reached text.entry.bytes.now (due (map lexeme tokens.now) k) head.entry → MatchResult result (Reached text.entry.bytes.now (at k)) (Refused text.entry.bytes.now) }
 {
     let mut head = head;
     for token in tokens {
-        head = expect_token(text, head, *token)?;
+        head = expect(text, head, *token)?;
     }
     Ok(head)
 }
@@ -122,28 +57,18 @@ pub(crate) fn expect_all<'a>(
 pub(crate) fn number(head: &Placed<'_>) -> Result<u32, Fault>
     ensures { MatchResult result (λ n. lexeme head.now.token ≡ number_of n) (λ f. ((n : ℕ) → lexeme head.now.token ≢ number_of n) × (f ≡ fault_at Unexpected head.now.place)) }
 {
-    if let Token::Number(n) = head.token {
-        return Ok(n);
+    match head.token {
+        Token::Number(n) => Ok(n),
+        _ => Err(Refusal::Unexpected.at(head.place)),
     }
-    Err(unexpected(head.place))
-}
-
-/// The token behind a number that has to be in hand, and to be this one.
-pub(crate) fn expect_number<'a>(
-    text: Text<'a>,
-    head: Placed<'a>,
-    n: u32,
-) -> Result<Placed<'a>, Fault>
-    ensures { Expected text.entry.bytes.now head.entry (number_of n) result }
-{
-    if number(&head)? != n {
-        return Err(unexpected(head.place));
-    }
-    text.scan(head.next)
 }
 
 /// The state that has to be in hand, below `states`, and the token behind it.
-pub(crate) fn state<'a>(text: Text<'a>, head: Placed<'a>, states: u32) -> Result<Numeral<'a>, Fault>
+pub(crate) fn state<'a>(
+    text: Text<'a>,
+    head: Placed<'a>,
+    states: u32,
+) -> Result<Read<'a, u32>, Fault>
     ensures read { NumberRead text.entry.bytes.now head.entry (state_limit states) result }
     ensures below { IfOk result (λ x. x.value < states) }
     ensures here { IfOk result (λ x. lexeme head.entry.token ≡ number_of x.value) }
@@ -151,27 +76,21 @@ pub(crate) fn state<'a>(text: Text<'a>, head: Placed<'a>, states: u32) -> Result
 {
     let value = number(&head)?;
     if value >= states {
-        return Err(broken(Refusal::OutOfRange, head.place));
+        return Err(Refusal::OutOfRange.at(head.place));
     }
-    let behind = text.scan(head.next)?;
-    Ok(Numeral {
-        value,
-        head: behind,
-    })
+    let head = text.scan(head.next)?;
+    Ok(Read { value, head })
 }
 
 /// The count that has to be in hand, at most `most`, and the token behind it.
-pub(crate) fn count<'a>(text: Text<'a>, head: Placed<'a>, most: u32) -> Result<Numeral<'a>, Fault>
+pub(crate) fn count<'a>(text: Text<'a>, head: Placed<'a>, most: u32) -> Result<Read<'a, u32>, Fault>
     ensures read { NumberRead text.entry.bytes.now head.entry (λ n. breaks_if (nat_lt most n) TooMany kept) result }
     ensures below { IfOk result (λ x. x.value ≤ most) }
 {
     let value = number(&head)?;
     if value > most {
-        return Err(broken(Refusal::TooMany, head.place));
+        return Err(Refusal::TooMany.at(head.place));
     }
-    let behind = text.scan(head.next)?;
-    Ok(Numeral {
-        value,
-        head: behind,
-    })
+    let head = text.scan(head.next)?;
+    Ok(Read { value, head })
 }

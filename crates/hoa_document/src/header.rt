@@ -1,16 +1,17 @@
 //! The header of a text.
-ghost use Rattle.std.specs.Prelude.{◌≡◌, ℕ, ◌^◌, ◌<◌, ◌≤◌, Bool, List, ◌∷◌, codes, MatchResult};
+ghost use Rattle.std.specs.Prelude.{ℕ, ◌^◌, ◌<◌, ◌≤◌, ◌≡◌, Bool, List, ◌∷◌, codes, MatchResult};
 ghost use Rattle.hoa_tokens.specs.Scanning.{word, lexeme};
-ghost use Rattle.hoa_grammar.specs.Documents.{most_states, most_signals, alike, infinitely_often};
+ghost use Rattle.hoa_grammar.specs.Documents.{most_states, most_signals, infinitely_often};
 ghost use Rattle.hoa_grammar.specs.Machine.{Slot, due, at, starts as starts_slot, names as names_slot, blocks as blocks_slot, header_of};
 ghost use Rattle.hoa_grammar.specs.Reading.{Reached, Refused};
-ghost use Rattle.hoa_grammar.specs.Rows.{Row, none, some};
+ghost use Rattle.hoa_grammar.specs.Rows.{Row, none};
 ghost use Rattle.hoa_document.specs.Standing.{Stands};
 ghost use Rattle.hoa_document.specs.Drafting.{InRow, HeaderRead};
-ghost use Rattle.hoa_document.specs.Naming.{first_names};
+ghost use Rattle.hoa_document.specs.Naming.{row_of};
 
-use crate::expect::{Numeral, broken, count, expect_all, expect_word, is_word, state, unexpected};
-use hoa_tokens::{Fault, Mark, Placed, Refusal, Text, Token};
+use crate::expect::{count, expect, expect_all, is_token, state};
+use crate::names::Names;
+use hoa_tokens::{Fault, Mark, Placed, Read, Refusal, Text, Token};
 
 /// The most states and signals of a text.
 const MOST_STATES: u32 = 64;
@@ -27,61 +28,35 @@ const INFINITELY_OFTEN: [Token<'static>; 6] = [
     Token::Word(b"--BODY--"),
 ];
 
-/// A set of states, and the token behind it.
-#[derive(Clone, Copy)]
-pub(crate) struct StateSet<'a> {
-    pub states: u64,
-    pub head: Placed<'a>,
-}
-
-/// The names of a text's signals: the first `count` of the list.
-#[derive(Clone, Copy)]
-pub struct Names<'a> {
-    pub list: [&'a [u8]; 4],
-    pub count: u32,
-}
-
-/// What a header says, and the token behind it.
+/// What a header says.
 #[derive(Clone, Copy)]
 pub(crate) struct Heading<'a> {
     pub states: u32,
     pub starts: u64,
     pub names: Names<'a>,
-    pub head: Placed<'a>,
-}
-
-/// Names that are read, and the token behind them.
-#[derive(Clone, Copy)]
-pub(crate) struct NameList<'a> {
-    pub list: [&'a [u8]; 4],
-    pub head: Placed<'a>,
 }
 
 /// The header.
-pub(crate) fn read_header<'a>(text: Text<'a>) -> Result<Heading<'a>, Fault>
+pub(crate) fn read_header<'a>(text: Text<'a>) -> Result<Read<'a, Heading<'a>>, Fault>
     ensures { MatchResult result (HeaderRead text.entry.bytes.now) (Refused text.entry.bytes.now) }
 {
-    let Numeral {
-        value: states,
-        head,
-    } = read_states(text)?;
-    let StateSet {
-        states: starts,
-        head,
-    } = read_starts(text, head, states)?;
-    let Numeral { value: count, head } = read_signals(text, head)?;
-    let NameList { list, head } = read_names(text, head, count)?;
-    let head = read_acceptance(text, head)?;
-    Ok(Heading {
-        states,
-        starts,
-        names: Names { list, count },
+    let states = read_states(text)?;
+    let starts = read_starts(text, states.head, states.value)?;
+    let signals = read_signals(text, starts.head)?;
+    let names = read_names(text, signals.head, signals.value)?;
+    let head = read_acceptance(text, names.head)?;
+    Ok(Read {
+        value: Heading {
+            states: states.value,
+            starts: starts.value,
+            names: names.value,
+        },
         head,
     })
 }
 
 /// The number of states, from the text's first token on.
-fn read_states<'a>(text: Text<'a>) -> Result<Numeral<'a>, Fault>
+fn read_states<'a>(text: Text<'a>) -> Result<Read<'a, u32>, Fault>
     ensures { MatchResult result (λ x. (x.value ≤ most_states) × Reached text.entry.bytes.now (at (starts_slot x.value none)) x.head) (Refused text.entry.bytes.now) }
 {
     let head = text.scan(0)?;
@@ -98,31 +73,31 @@ fn read_states<'a>(text: Text<'a>) -> Result<Numeral<'a>, Fault>
 }
 
 /// The starts, each behind a `Start:`.
-fn read_starts<'a>(text: Text<'a>, head: Placed<'a>, states: u32) -> Result<StateSet<'a>, Fault>
+fn read_starts<'a>(text: Text<'a>, head: Placed<'a>, states: u32) -> Result<Read<'a, u64>, Fault>
     requires few { states ≤ most_states }
     requires reached { Reached text.bytes.now (at (starts_slot states none)) head }
-    ensures { MatchResult result (λ x. (row : Row ℕ) × Reached text.entry.bytes.now (at (starts_slot states row)) x.head × InRow x.states row × (x.states < 2 ^ states) × (lexeme x.head.token ≡ word (codes "Start:") → ⊥)) (Refused text.entry.bytes.now) }
+    ensures { MatchResult result (λ x. (row : Row ℕ) × Reached text.entry.bytes.now (at (starts_slot states row)) x.head × InRow x.value row × (x.value < 2 ^ states) × (lexeme x.head.token ≡ word (codes "Start:") → ⊥)) (Refused text.entry.bytes.now) }
 {
     let mut starts = 0u64;
     let mut head = head;
-    while is_word(&head, b"Start:") {
+    while is_token(&head, Token::Word(b"Start:")) {
         let behind = text.scan(head.next)?;
         let start = state(text, behind, states)?;
         starts |= 1 << start.value;
         head = start.head;
     }
-    Ok(StateSet {
-        states: starts,
+    Ok(Read {
+        value: starts,
         head,
     })
 }
 
 /// The number of signals behind `AP:`.
-fn read_signals<'a>(text: Text<'a>, head: Placed<'a>) -> Result<Numeral<'a>, Fault>
+fn read_signals<'a>(text: Text<'a>, head: Placed<'a>) -> Result<Read<'a, u32>, Fault>
     requires { lexeme head.token ≡ word (codes "Start:") → ⊥ }
     ensures { (n : ℕ) (row : Row ℕ) → Reached text.entry.bytes.now (at (starts_slot n row)) head.entry → MatchResult result (λ x. (x.value ≤ most_signals) × Reached text.entry.bytes.now (at (names_slot n row none x.value)) x.head) (Refused text.entry.bytes.now) }
 {
-    let head = expect_word(text, head, b"AP:")?;
+    let head = expect(text, head, Token::Word(b"AP:"))?;
     count(text, head, MOST_SIGNALS)
 }
 
@@ -130,9 +105,9 @@ fn read_signals<'a>(text: Text<'a>, head: Placed<'a>) -> Result<Numeral<'a>, Fau
 fn read_acceptance<'a>(text: Text<'a>, head: Placed<'a>) -> Result<Placed<'a>, Fault>
     ensures { (n : ℕ) (row : Row ℕ) (names : Row (List ℕ)) → Reached text.entry.bytes.now (at (names_slot n row names 0)) head.entry → MatchResult result (λ h. (told : Bool) × Reached text.entry.bytes.now (at (blocks_slot (header_of n row names told) none)) h) (Refused text.entry.bytes.now) }
 {
-    if is_word(&head, b"acc-name:") {
+    if is_token(&head, Token::Word(b"acc-name:")) {
         let head = text.scan(head.next)?;
-        let head = expect_word(text, head, b"Buchi")?;
+        let head = expect(text, head, Token::Word(b"Buchi"))?;
         return read_condition(text, head);
     }
     read_condition(text, head)
@@ -142,39 +117,30 @@ fn read_acceptance<'a>(text: Text<'a>, head: Placed<'a>) -> Result<Placed<'a>, F
 fn read_condition<'a>(text: Text<'a>, head: Placed<'a>) -> Result<Placed<'a>, Fault>
     ensures { (k : Slot) → Stands text.entry.bytes.now (due (word (codes "Acceptance:") ∷ infinitely_often) k) head.entry → MatchResult result (Reached text.entry.bytes.now (at k)) (Refused text.entry.bytes.now) }
 {
-    let head = expect_word(text, head, b"Acceptance:")?;
+    let head = expect(text, head, Token::Word(b"Acceptance:"))?;
     expect_all(text, head, &INFINITELY_OFTEN)
 }
 
-/// Whether one of the first names is this one.
-fn is_repeated(names: &[&[u8]; 4], count: u32, name: &[u8]) -> bool
-    requires { count ≤ most_signals }
-    ensures { result ≡ some (alike name.now) (first_names names.now count) }
-{
-    for i in 0..count {
-        if names[i as usize] == name {
-            return true;
-        }
-    }
-    false
-}
-
 /// So many names, none of them twice.
-fn read_names<'a>(text: Text<'a>, head: Placed<'a>, signals: u32) -> Result<NameList<'a>, Fault>
+fn read_names<'a>(
+    text: Text<'a>,
+    head: Placed<'a>,
+    signals: u32,
+) -> Result<Read<'a, Names<'a>>, Fault>
     requires { signals ≤ most_signals }
-    ensures { (n : ℕ) (row : Row ℕ) → Reached text.entry.bytes.now (at (names_slot n row none signals)) head.entry → MatchResult result (λ x. Reached text.entry.bytes.now (at (names_slot n row (first_names x.list signals) 0)) x.head) (Refused text.entry.bytes.now) }
+    ensures { (n : ℕ) (row : Row ℕ) → Reached text.entry.bytes.now (at (names_slot n row none signals)) head.entry → MatchResult result (λ x. Reached text.entry.bytes.now (at (names_slot n row (row_of x.value) 0)) x.head) (Refused text.entry.bytes.now) }
 {
-    let mut list: [&[u8]; 4] = [b""; 4];
+    let mut names = Names::new();
     let mut head = head;
-    for i in 0..signals {
+    while names.count < signals {
         let Token::Name(name) = head.token else {
-            return Err(unexpected(head.place));
+            return Err(Refusal::Unexpected.at(head.place));
         };
-        if is_repeated(&list, i, name) {
-            return Err(broken(Refusal::Repeated, head.place));
+        if names.contains(name) {
+            return Err(Refusal::Repeated.at(head.place));
         }
-        list[i as usize] = name;
+        names.push(name);
         head = text.scan(head.next)?;
     }
-    Ok(NameList { list, head })
+    Ok(Read { value: names, head })
 }

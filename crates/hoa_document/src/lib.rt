@@ -5,6 +5,7 @@ mod body;
 mod document;
 mod expect;
 mod header;
+mod names;
 
 pub use document::{read_draft, read_names};
-pub use header::Names;
+pub use names::Names;

@@ -1,4 +1,3 @@
-pub mod Alike
 pub mod Filled
 pub mod NameRows
 pub mod Parts

@@ -1,8 +1,16 @@
 -- The names that an array holds, one by one.
-use Rattle.std.proofs.Common.{◌≡◌, ℕ, zero, suc, ◌<◌, List, sym, refl, ap, ◌∙◌, subst, inl, inr, ⊎_elim, arith, Bor}
-use Rattle.std.proofs.lemmas.Bool.{cases_eq}
-use Rattle.hoa_grammar.specs.Rows.{Row, more, size}
-use Rattle.hoa_document.specs.Naming.{name_at, first_names}
+use Rattle.std.proofs.Common.{◌≡◌, ℕ, zero, suc, ◌<◌, ◌≤◌, Bool, true, List, [], ◌∷◌, ◌++◌, length, take, Decides, sym, refl, ap, ◌∙◌, inl, inr, subst, ⊎_elim, rules, arith, Bor, Result, Ok, Err, is_ok, MatchResult}
+use Rattle.std.specs.Cmp.Lexicographic.{pointwise}
+use Rattle.std.specs.Str.{bytes_eq}
+use Rattle.std.proofs.Math.Seq.{take-suc}
+use Rattle.std.proofs.lemmas.Bool.{cases_eq, true≢false}
+use Rattle.std.proofs.lemmas.List.{length-take}
+use Rattle.std.proofs.lemmas.Slice.Eq.{bytes_eq-Decides}
+use Rattle.hoa_tokens.specs.declared.fault.Fault.{Fault}
+use Rattle.hoa_grammar.specs.Rows.{Row, none, more, size}
+use Rattle.hoa_document.specs.declared.names.Names.{Names}
+use Rattle.hoa_document.specs.Denoting.{TextNames, TextRefused}
+use Rattle.hoa_document.specs.Naming.{name_at, first_names, row_of}
 use Rattle.hoa_document.proofs.HeldNames.{size_first}
 use Rattle.hoa_text.specs.Naming.{IsName}
 
@@ -15,44 +23,64 @@ name_at_lem held i (suc m) inside =
     (λ other. inr (name_at_lem held i m (omega arith)))
     (cases_eq i m)
 
--- the last names of alike rows are alike, and so are those before them
-pub last_alike : {ws vs : Row (List ℕ)} {w v : List ℕ} → more ws w ≡ more vs v → w ≡ v
-last_alike e = cc
+-- a row with the names of a list behind it
+abbrev behind : Row (List ℕ) → List (Bor (List ℕ)) → Row (List ℕ)
+behind ws [] = ws
+behind ws (v ∷ vs) = behind (more ws v.now) vs
 
-pub before_alike : {ws vs : Row (List ℕ)} {w v : List ℕ} → more ws w ≡ more vs v → ws ≡ vs
-before_alike e = cc
+behind-append : (ws : Row (List ℕ)) (vs : List (Bor (List ℕ))) (v : Bor (List ℕ)) → behind ws (vs ++ v ∷ []) ≡ more (behind ws vs) v.now
+behind-append ws [] v = refl
+behind-append ws (u ∷ us) v = behind-append (more ws u.now) us v
 
-module _ (a b : List (Bor (List ℕ))) where
-  -- rows are alike where all their names are
-  pub rows_alike : (m : ℕ) → ((i : ℕ) → i < m → name_at a i ≡ name_at b i) → first_names a m ≡ first_names b m
-  rows_alike zero all = refl
-  rows_alike (suc m) all =
-      let before = rows_alike m (λ i inside. all i (omega arith)) in
-      let last = all m (omega arith) in
-      cc
+-- the first m names are those of the first m elements
+first_behind : (held : List (Bor (List ℕ))) (m : ℕ) → m ≤ length held → first_names held m ≡ behind none (take m held)
+first_behind held zero inside = refl
+first_behind held (suc m) inside =
+    rw (take-suc held m (record { ref_ptr = (0, 0); now = [] }) (omega arith), behind-append) (ap (λ ws. more ws (name_at held m)) (first_behind held m (omega arith)))
 
-  -- and only there
-  pub names_alike : (m : ℕ) → first_names a m ≡ first_names b m → (i : ℕ) → i < m → name_at a i ≡ name_at b i
-  names_alike zero e i inside = absurd (omega arith)
-  names_alike (suc m) e i inside =
-      ⊎_elim
-      (λ same. subst (λ j. name_at a j ≡ name_at b j) (sym same) (last_alike e))
-      (λ other. names_alike m (before_alike e) i (omega arith))
-      (cases_eq i m)
+abbrev same_names : List (Bor (List ℕ)) → List (Bor (List ℕ)) → Bool
+same_names = pointwise (λ v w. bytes_eq v.now w.now)
 
--- names that arrays hold
-module _ {ws vs : Row (List ℕ)} (a b : List (Bor (List ℕ))) (m n : ℕ) (left : ws ≡ first_names a m) (right : vs ≡ first_names b n) where
-  -- are as many as those of the arrays
-  pub as_many : size ws ≡ size vs → m ≡ n
-  as_many e = sym (size_first a m) ∙ sym (ap size left) ∙ e ∙ ap size right ∙ size_first b n
+-- rows are alike where the lists behind them are
+behind_alike : (ws : Row (List ℕ)) (us vs : List (Bor (List ℕ))) → same_names us vs ≡ true → behind ws us ≡ behind ws vs
+behind_alike ws [] [] e = refl
+behind_alike ws [] (v ∷ vs) e = absurd (true≢false (sym e))
+behind_alike ws (u ∷ us) [] e = absurd (true≢false (sym e))
+behind_alike ws (u ∷ us) (v ∷ vs) e =
+    let first : bytes_eq u.now v.now ≡ true = search (rules, e) in
+    let others : same_names us vs ≡ true = search (rules, e) in
+    rw ((bytes_eq-Decides u.now v.now).0 first) (behind_alike (more ws v.now) us vs others)
 
-  module _ (same : m ≡ n) where
-    pub same_size : size ws ≡ size vs
-    same_size = ap size left ∙ size_first a m ∙ same ∙ sym (size_first b n) ∙ sym (ap size right)
+-- and only there
+alike_behind : (ws xs : Row (List ℕ)) (us vs : List (Bor (List ℕ))) → length us ≡ length vs → behind ws us ≡ behind xs vs → (ws ≡ xs) × (same_names us vs ≡ true)
+alike_behind ws xs [] [] n e = (e, refl)
+alike_behind ws xs [] (v ∷ vs) n e = absurd (omega arith)
+alike_behind ws xs (u ∷ us) [] n e = absurd (omega arith)
+alike_behind ws xs (u ∷ us) (v ∷ vs) n e =
+    let rest = alike_behind (more ws u.now) (more xs v.now) us vs (omega arith) e in
+    let before : ws ≡ xs = cc in
+    let last : u.now ≡ v.now = cc in
+    (before, rw ((bytes_eq-Decides u.now v.now).1 last) rest.1)
 
-    -- and are alike exactly where those are
-    pub held_alike : ws ≡ vs → first_names a m ≡ first_names b m
-    held_alike e = sym left ∙ e ∙ right ∙ ap (first_names b) (sym same)
+-- so two lists of names are alike exactly where their rows are
+pub names_alike : (a b : Names) → a.count ≤ length a.list → b.count ≤ length b.list → Decides (same_names (take a.count a.list) (take b.count b.list)) (row_of a ≡ row_of b)
+names_alike a b inside within = (
+  λ same. first_behind a.list a.count inside ∙ behind_alike none (take a.count a.list) (take b.count b.list) same ∙ sym (first_behind b.list b.count within),
+  λ same.
+      let many : a.count ≡ b.count = sym (size_first a.list a.count) ∙ ap size same ∙ size_first b.list b.count in
+      (alike_behind none none (take a.count a.list) (take b.count b.list) (omega (arith, length-take a.count a.list, length-take b.count b.list)) (sym (first_behind a.list a.count inside) ∙ same ∙ first_behind b.list b.count within)).1,
+)
 
-    pub rows_same : first_names a m ≡ first_names b m → ws ≡ vs
-    rows_same e = left ∙ e ∙ ap (first_names b) same ∙ sym right
+-- names that were read, past the map of a fault
+pub names_read : (E : Type 0) (text : List ℕ) (x : Names) (r : Result Names Fault) (Q : Fault → Type 0) → MatchResult r (λ v. ◌≡◌ {A = Result Names E} (Ok x) (Ok v)) Q → true ≡ is_ok r → MatchResult r (TextNames text) (TextRefused text) → TextNames text x
+names_read E text x (Ok v) Q is ok t = let same : x ≡ v = cc in subst (TextNames text) (sym same) t
+names_read E text x (Err f) Q is ok t = absurd (true≢false ok)
+
+-- names of two texts, held in two lists
+module _ (first second : List ℕ) (x y : Names) (l : TextNames first x) (r : TextNames second y) where
+  -- are as many as in the lists
+  pub as_many : size l.0.header.names ≡ size r.0.header.names → x.count ≡ y.count
+  as_many e = sym (size_first x.list x.count) ∙ sym (ap size l.2) ∙ e ∙ ap size r.2 ∙ size_first y.list y.count
+
+  pub same_size : x.count ≡ y.count → size l.0.header.names ≡ size r.0.header.names
+  same_size e = ap size l.2 ∙ size_first x.list x.count ∙ e ∙ sym (size_first y.list y.count) ∙ sym (ap size r.2)

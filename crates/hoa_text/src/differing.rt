@@ -5,14 +5,9 @@ ghost use Rattle.hoa_text.specs.Differences.{FirstDifference};
 pub fn difference(a: &[u8], b: &[u8]) -> Option<usize>
     ensures { FirstDifference a.now b.now result }
 {
-    let shorter = a.len().min(b.len());
-    for i in 0..shorter {
-        if a[i] != b[i] {
-            return Some(i);
-        }
+    let within = a.iter().zip(b).position(|(x, y)| x != y);
+    if within.is_none() && a.len() != b.len() {
+        return Some(a.len().min(b.len()));
     }
-    if a.len() == b.len() {
-        return None;
-    }
-    Some(shorter)
+    within
 }

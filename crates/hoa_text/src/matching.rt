@@ -1,32 +1,17 @@
 //! Whether two texts name their signals alike.
-ghost use Rattle.std.specs.Prelude.{◌≡◌, ◌≤◌, T, ◌↔◌, MatchResult};
-ghost use Rattle.hoa_grammar.specs.Documents.{most_signals};
-ghost use Rattle.hoa_document.specs.Naming.{first_names};
+ghost use Rattle.std.specs.Prelude.{◌≡◌, ◌↔◌, IsTrue, MatchResult};
+ghost use Rattle.hoa_document.specs.Naming.{row_of};
 ghost use Rattle.hoa_text.specs.Naming.{NamesAlike, Unmatched};
 
-use crate::differing::difference;
 use crate::refusal::MatchRefusal;
 use automaton::PartsRefusal;
 use hoa_document::{Names, read_names};
 
-/// Whether two names are alike.
-fn is_same(a: &[u8], b: &[u8]) -> bool
-    ensures { T result ↔ (a.now ≡ b.now) }
+/// Whether two lists of names are alike.
+fn alike(first: &Names<'_>, second: &Names<'_>) -> bool
+    ensures { IsTrue result ↔ (row_of first.now ≡ row_of second.now) }
 {
-    difference(a, b).is_none()
-}
-
-/// Whether the first `count` names of two lists are alike.
-fn alike(first: &[&[u8]; 4], second: &[&[u8]; 4], count: u32) -> bool
-    requires { count ≤ most_signals }
-    ensures { T result ↔ (first_names first.now count ≡ first_names second.now count) }
-{
-    for i in 0..count {
-        if !is_same(first[i as usize], second[i as usize]) {
-            return false;
-        }
-    }
-    true
+    first.as_slice() == second.as_slice()
 }
 
 /// Accepts two texts whose names are alike, byte for byte and in order.
@@ -35,18 +20,12 @@ fn alike(first: &[&[u8]; 4], second: &[&[u8]; 4], count: u32) -> bool
 pub fn match_names(first: &[u8], second: &[u8]) -> Result<(), MatchRefusal>
     ensures { MatchResult result (λ _. NamesAlike first.now second.now) (Unmatched first.now second.now) }
 {
-    let left = match read_names(first) {
-        Ok(names) => names,
-        Err(fault) => return Err(MatchRefusal::First(fault)),
-    };
-    let right = match read_names(second) {
-        Ok(names) => names,
-        Err(fault) => return Err(MatchRefusal::Second(fault)),
-    };
+    let left = read_names(first).map_err(MatchRefusal::First)?;
+    let right = read_names(second).map_err(MatchRefusal::Second)?;
     if left.count != right.count {
         return Err(MatchRefusal::Parts(PartsRefusal::SignalsDiffer));
     }
-    if !alike(&left.list, &right.list, left.count) {
+    if !alike(&left, &right) {
         return Err(MatchRefusal::Parts(PartsRefusal::NamesDiffer));
     }
     Ok(())

@@ -1,25 +1,12 @@
 //! Reading a text into a table.
-ghost use Rattle.std.specs.Prelude.{◌≡◌, ℕ, ◌<◌, List, length, MatchResult, OnErr};
+ghost use Rattle.std.specs.Prelude.{◌≡◌, length, MatchResult, OnErr};
 ghost use Rattle.omega.specs.Tables.{table as table_of};
-ghost use Rattle.tables.specs.declared.refusal.LenderRefusal.TheVariants.{TooFewCells};
-ghost use Rattle.tables.specs.Cells.{table_cells};
-ghost use Rattle.hoa_document.specs.Denoting.{TextDenotes, SaysOne, draft_meaning};
+ghost use Rattle.hoa_document.specs.Denoting.{TextDenotes, SaysOne};
 ghost use Rattle.hoa_text.specs.Reading.{Unread, ToldOnce, CellsSet};
 
 use crate::refusal::ReadRefusal;
 use hoa_document::read_draft;
-use tables::{Draft, LenderRefusal, Table};
-
-/// Makes the table that of a draft, which is what a text denotes if the draft is; else the table and its cells stay as they were.
-fn write(table: &mut Table<'_>, draft: &Draft) -> Result<(), LenderRefusal>
-    ensures denotes { MatchResult result (λ _. ((text : List ℕ) → TextDenotes text (draft_meaning draft.now) → TextDenotes text (table_of table.new.states table.new.signals table.new.starts table.new.goods table.new.cells.now))) (λ e. (e ≡ TooFewCells) × (length table.old.cells.now < table_cells)) }
-    ensures cells { MatchResult result (λ _. CellsSet table.new.states table.old.cells.now table.new.cells.now) (λ _. table.new.cells.now ≡ table.old.cells.now) }
-    ensures kept { OnErr result ((table.new.states ≡ table.old.states) × (table.new.signals ≡ table.old.signals) × (table.new.starts ≡ table.old.starts) × (table.new.goods ≡ table.old.goods)) }
-    ensures lender { table.new.cells.ghost_name ≡ table.old.cells.ghost_name }
-{
-    table.fill(draft)?;
-    Ok(())
-}
+use tables::Table;
 
 /// Reads a text into a table: the table is then the one that the text's document denotes. Else the table and its cells stay as they were.
 ///
@@ -31,15 +18,8 @@ pub fn read(table: &mut Table<'_>, bytes: &[u8]) -> Result<(), ReadRefusal>
     ensures kept { OnErr result ((table.new.states ≡ table.old.states) × (table.new.signals ≡ table.old.signals) × (table.new.starts ≡ table.old.starts) × (table.new.goods ≡ table.old.goods)) }
     ensures lender { table.new.cells.ghost_name ≡ table.old.cells.ghost_name }
 {
-    if let Err(refusal) = table.check_room() {
-        return Err(ReadRefusal::Lender(refusal));
-    }
-    let draft = match read_draft(bytes) {
-        Ok(draft) => draft,
-        Err(fault) => return Err(ReadRefusal::Text(fault)),
-    };
-    match write(table, &draft) {
-        Ok(()) => Ok(()),
-        Err(refusal) => Err(ReadRefusal::Lender(refusal)),
-    }
+    table.check_room()?;
+    let draft = read_draft(bytes)?;
+    table.fill(&draft)?;
+    Ok(())
 }

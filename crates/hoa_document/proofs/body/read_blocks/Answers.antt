@@ -9,27 +9,31 @@ pub returns-in_err-behind : goal.returns-in_err-behind
 returns-in_err-behind c =
     let p = err_from_is_err_and c.from_residual.result c.from_residual.ensures.1 in
     let i = c.loop-signals.invariant.1 in
-    rw (p.1, p.2) (block_begins i.header i.rows i.stands (c.is_word.ensures.is c.loop-signals-test.true) (Err _) c.in_err-behind.ensures.scanned)
+    let is = c.is_token.ensures.0 c.loop-signals-test.true in
+    rw (p.1, p.2) (block_begins i.header i.rows i.stands is (Err _) c.in_err-behind.ensures.scanned)
 
 pub returns-in_err-from : goal.returns-in_err-from
 returns-in_err-from c =
     let p = err_from_is_err_and c.from_residual-in_err-from.result c.from_residual-in_err-from.ensures.1 in
     let i = c.loop-signals.invariant.1 in
-    let state = block_begins i.header i.rows i.stands (c.is_word.ensures.is c.loop-signals-test.true) (Ok c.in_ok-behind.behind) c.in_ok-behind.ensures.scanned in
+    let is = c.is_token.ensures.0 c.loop-signals-test.true in
+    let state = block_begins i.header i.rows i.stands is (Ok c.in_ok-behind.behind) c.in_ok-behind.ensures.scanned in
     rw (p.1, p.2) (c.in_err-from.ensures.read i.header i.rows i.sized.0 i.described state)
 
 pub returns-in_err-edges : goal.returns-in_err-edges
 returns-in_err-edges c =
     let p = err_from_is_err_and c.from_residual-in_err-edges.result c.from_residual-in_err-edges.ensures.1 in
     let i = c.loop-signals.invariant.1 in
-    let state = block_begins i.header i.rows i.stands (c.is_word.ensures.is c.loop-signals-test.true) (Ok c.in_ok-behind.behind) c.in_ok-behind.ensures.scanned in
+    let is = c.is_token.ensures.0 c.loop-signals-test.true in
+    let state = block_begins i.header i.rows i.stands is (Ok c.in_ok-behind.behind) c.in_ok-behind.ensures.scanned in
     let good = c.in_ok-from.ensures.read i.header i.rows i.sized.0 i.described state in
     rw (p.1, p.2) (c.in_err-edges.ensures i.header i.rows i.drafted (omega (arith, i.sized, c.in_ok-from.ensures.fresh)) good)
 
 pub read_edges-requires : goal.read_edges-requires
 read_edges-requires c =
     let i = c.loop-signals.invariant.1 in
-    let state = block_begins i.header i.rows i.stands (c.is_word.ensures.is c.loop-signals-test.true) (Ok c.in_ok-behind.behind) c.in_ok-behind.ensures.scanned in
+    let is = c.is_token.ensures.0 c.loop-signals-test.true in
+    let state = block_begins i.header i.rows i.stands is (Ok c.in_ok-behind.behind) c.in_ok-behind.ensures.scanned in
     let good = c.in_ok-from.ensures.read i.header i.rows i.sized.0 i.described state in
     let b = c.in_ok-edges.ensures i.header i.rows i.drafted (omega (arith, i.sized, c.in_ok-from.ensures.fresh)) good in
     record { below = c.in_ok-from.ensures.fresh.0; block = record { header = i.header; before = i.rows; block = b.0; sized = i.sized; within = b.1 } }
@@ -38,7 +42,8 @@ pub returns-in_err-head : goal.returns-in_err-head
 returns-in_err-head c =
     let p = err_from_is_err_and c.from_residual-in_err-head.result c.from_residual-in_err-head.ensures.1 in
     let i = c.loop-signals.invariant.1 in
-    let state = block_begins i.header i.rows i.stands (c.is_word.ensures.is c.loop-signals-test.true) (Ok c.in_ok-behind.behind) c.in_ok-behind.ensures.scanned in
+    let is = c.is_token.ensures.0 c.loop-signals-test.true in
+    let state = block_begins i.header i.rows i.stands is (Ok c.in_ok-behind.behind) c.in_ok-behind.ensures.scanned in
     let good = c.in_ok-from.ensures.read i.header i.rows i.sized.0 i.described state in
     let b = c.in_ok-edges.ensures i.header i.rows i.drafted (omega (arith, i.sized, c.in_ok-from.ensures.fresh)) good in
     rw (p.1, p.2) (c.in_err-head.ensures i.header i.rows b.0 i.sized b.1)
@@ -50,10 +55,11 @@ loop-signals-smaller c =
 pub loop-signals-preserved : goal.loop-signals-preserved
 loop-signals-preserved c =
     let i = c.loop-signals.invariant.1 in
-    let state = block_begins i.header i.rows i.stands (c.is_word.ensures.is c.loop-signals-test.true) (Ok c.in_ok-behind.behind) c.in_ok-behind.ensures.scanned in
+    let is = c.is_token.ensures.0 c.loop-signals-test.true in
+    let state = block_begins i.header i.rows i.stands is (Ok c.in_ok-behind.behind) c.in_ok-behind.ensures.scanned in
     let good = c.in_ok-from.ensures.read i.header i.rows i.sized.0 i.described state in
     let b = c.in_ok-edges.ensures i.header i.rows i.drafted (omega (arith, i.sized, c.in_ok-from.ensures.fresh)) good in
     rw c.with_described-described.ensures (
       described_in c.loop-signals.described c.in_ok-from.from.value (omega (arith, c.requires.few, c.in_ok-from.ensures.fresh)) c.loop-signals.invariant.0,
-      blocks_more c.args.header.states c.args.signals.count c.loop-signals.described c.in_ok-from.from.value i.header i.rows _ c.in_ok-head.head (omega (arith, c.requires.few, c.in_ok-from.ensures.fresh)) i.sized i.named i.described (c.in_ok-head.ensures i.header i.rows b.0 i.sized b.1),
+      blocks_more c.args.header.value.states c.args.signals.count c.loop-signals.described c.in_ok-from.from.value i.header i.rows _ c.in_ok-head.head (omega (arith, c.requires.few, c.in_ok-from.ensures.fresh)) i.sized i.named i.described (c.in_ok-head.ensures i.header i.rows b.0 i.sized b.1),
     )

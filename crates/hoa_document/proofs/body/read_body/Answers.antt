@@ -4,7 +4,7 @@ use Rattle.std.proofs.lemmas.Result.{err_from_is_err_and}
 use Rattle.std.proofs.lemmas.Option.{MatchOption-at_some}
 use Rattle.hoa_grammar.specs.Rows.{none}
 use Rattle.hoa_grammar.specs.Machine.{header_of}
-use Rattle.hoa_document.specs.Naming.{first_names}
+use Rattle.hoa_document.specs.Naming.{row_of}
 use Rattle.hoa_document.proofs.Leading.{stands_there}
 use Rattle.hoa_document.proofs.HeldNames.{size_first}
 use Rattle.hoa_document.proofs.Drafts.{drafted_empty, described_none}
@@ -12,8 +12,8 @@ use Rattle.hoa_document.proofs.body.read_body.Goals as goal
 
 pub read_blocks-requires : goal.read_blocks-requires
 read_blocks-requires c =
-    let x = c.args.header in
-    let header = header_of x.states c.requires.row (first_names x.names.list x.names.count) c.requires.told in
+    let x = c.args.header.value in
+    let header = header_of x.states c.requires.row (row_of x.names) c.requires.told in
     let size = size_first x.names.list x.names.count in
     let counted = MatchOption-at_some _ _ c.unwrap-signals.result c.unwrap-signals.ensures c.new.ensures in
     let made = MatchOption-at_some _ _ c.unwrap-draft.result c.unwrap-draft.ensures c.new-2.ensures in

@@ -23,12 +23,12 @@ returns-in_err-check_described c =
       fresh = tt;
     })
 
-pub returns-in_err-behind : goal.returns-in_err-behind
-returns-in_err-behind c =
-    let p = err_from_is_err_and c.from_residual-in_err-behind.result c.from_residual-in_err-behind.ensures.1 in
+pub returns-in_err-head : goal.returns-in_err-head
+returns-in_err-head c =
+    let p = err_from_is_err_and c.from_residual-in_err-head.result c.from_residual-in_err-head.ensures.1 in
     let new = c.in_ok-check_described.ensures in
     rw (p.1, p.2) (record {
-      read = λ h bs states described r. state_read h bs c.args.states c.args.head states r (Err _) (number_last c.args.text.bytes.now c.args.head (block_limit c.args.states bs) c.in_ok-value.value c.in_ok-value.ensures (fresh c.args.states bs c.args.described c.in_ok-value.value described new.0 (ne_eqb _ 1 new.1)) _ c.in_err-behind.ensures.scanned);
+      read = λ h bs states described r. state_read h bs c.args.states c.args.head states r (Err _) (number_last c.args.text.bytes.now c.args.head (block_limit c.args.states bs) c.in_ok-value.value c.in_ok-value.ensures (fresh c.args.states bs c.args.described c.in_ok-value.value described new.0 (ne_eqb _ 1 new.1)) _ c.in_err-head.ensures.scanned);
       fresh = tt;
     })
 
@@ -36,6 +36,6 @@ pub returns : goal.returns
 returns c =
     let new = c.in_ok-check_described.ensures in
     record {
-      read = λ h bs states described r. state_read h bs c.args.states c.args.head states r (Ok _) (number_here c.args.text.bytes.now c.args.head (block_limit c.args.states bs) c.in_ok-value.value c.in_ok-value.ensures (fresh c.args.states bs c.args.described c.in_ok-value.value described new.0 (ne_eqb _ 1 new.1)) c.in_ok-behind.behind c.in_ok-behind.ensures.scanned);
+      read = λ h bs states described r. state_read h bs c.args.states c.args.head states r (Ok _) (number_here c.args.text.bytes.now c.args.head (block_limit c.args.states bs) c.in_ok-value.value c.in_ok-value.ensures (fresh c.args.states bs c.args.described c.in_ok-value.value described new.0 (ne_eqb _ 1 new.1)) c.in_ok-head.head c.in_ok-head.ensures.scanned);
       fresh = (new.0, ne_eqb _ 1 new.1);
     }

@@ -1,20 +1,24 @@
 -- A label is read behind its bracket; without one all letters are meant.
 use Rattle.std.proofs.Common.{Ok, Err}
 use Rattle.std.proofs.lemmas.Result.{err_from_is_err_and}
+use Rattle.std.proofs.lemmas.Bool.Decides.{not_from_Decides}
 use Rattle.hoa_document.proofs.Edges.{unlabelled_read, label_begins, labelled_read}
 use Rattle.hoa_document.proofs.body.read_letters.Goals as goal
 
 pub returns-in_err-behind : goal.returns-in_err-behind
 returns-in_err-behind c =
     let p = err_from_is_err_and c.from_residual.result c.from_residual.ensures.1 in
-    rw (p.1, p.2) (λ cur names st. label_begins cur c.args.signals.count st (c.is_mark.ensures.is c.if-is_mark.true) (Err _) c.in_err-behind.ensures.scanned)
+    let is = c.is_token.ensures.0 c.if-is_token.true in
+    rw (p.1, p.2) (λ cur names st. label_begins cur c.args.signals.count st is (Err _) c.in_err-behind.ensures.scanned)
 
-pub returns-then-is_mark : goal.returns-then-is_mark
-returns-then-is_mark c cur names st =
+pub returns-then-is_token : goal.returns-then-is_token
+returns-then-is_token c cur names st =
+    let is = c.is_token.ensures.0 c.if-is_token.true in
     labelled_read cur c.args.signals.count names
-    (label_begins cur c.args.signals.count st (c.is_mark.ensures.is c.if-is_mark.true) (Ok c.in_ok-behind.behind) c.in_ok-behind.ensures.scanned)
+    (label_begins cur c.args.signals.count st is (Ok c.in_ok-behind.behind) c.in_ok-behind.ensures.scanned)
     c.read_label.result c.read_label.ensures
 
 pub returns : goal.returns
 returns c cur names st =
-    unlabelled_read cur c.args.signals.count st c.requires (c.is_mark.ensures.other c.if-is_mark.false) c.all_letters.result c.all_letters.ensures
+    let other = not_from_Decides _ c.is_token.ensures c.if-is_token.false in
+    unlabelled_read cur c.args.signals.count st c.requires other c.all_letters.result c.all_letters.ensures

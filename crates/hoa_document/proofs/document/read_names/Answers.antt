@@ -7,10 +7,10 @@ pub returns-in_err-read_body : goal.returns-in_err-read_body
 returns-in_err-read_body c =
     let p = err_from_is_err_and c.from_residual-in_err-read_body.result c.from_residual-in_err-read_body.ensures.1 in
     let begun = c.in_ok-begun.ensures in
-    record { names = rw (p.1, p.2) (refused_here begun.0 begun.1 _ c.in_err-read_body.ensures); few = rw p.1 tt }
+    rw (p.1, p.2) (refused_here begun.0 begun.1 _ c.in_err-read_body.ensures)
 
 pub returns : goal.returns
 returns c =
     let begun = c.in_ok-begun.ensures in
     let said = c.in_ok-read_body.ensures in
-    record { names = (said.0, writes_here begun.0 begun.1 said.0 said.1, said.3); few = begun.2.narrow }
+    (said.0, writes_here begun.0 begun.1 said.0 said.1, said.3)

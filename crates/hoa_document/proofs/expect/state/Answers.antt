@@ -3,7 +3,7 @@ use Rattle.std.proofs.lemmas.Result.{err_from_is_err_and}
 use Rattle.std.proofs.lemmas.Bool.{le-leb, lt-leb}
 use Rattle.hoa_tokens.specs.declared.fault.Refusal.TheVariants.{OutOfRange}
 use Rattle.hoa_grammar.specs.Documents.{state_limit}
-use Rattle.hoa_document.proofs.Leading.{same_fault, breaks_where, keeps_where, number_missing, number_over, number_last, number_here}
+use Rattle.hoa_document.proofs.Leading.{breaks_where, keeps_where, number_missing, number_over, number_last, number_here}
 use Rattle.hoa_document.proofs.expect.state.Goals as goal
 
 pub returns-in_err-value : goal.returns-in_err-value
@@ -18,17 +18,17 @@ returns-in_err-value c =
 
 pub returns-then-value-states : goal.returns-then-value-states
 returns-then-value-states c = record {
-  read = number_over c.args.text.bytes.now c.args.head (state_limit c.args.states) c.in_ok-value.value c.in_ok-value.ensures OutOfRange (breaks_where _ OutOfRange (le-leb c.args.states c.in_ok-value.value c.if-value-states.true)) c.broken.result (same_fault c.broken.result OutOfRange c.args.head.place c.broken.ensures.0 c.broken.ensures.1 c.broken.ensures.2);
+  read = number_over c.args.text.bytes.now c.args.head (state_limit c.args.states) c.in_ok-value.value c.in_ok-value.ensures OutOfRange (breaks_where _ OutOfRange (le-leb c.args.states c.in_ok-value.value c.if-value-states.true)) c.at.result c.at.ensures;
   below = tt;
   here = tt;
   ahead = tt;
 }
 
-pub returns-in_err-behind : goal.returns-in_err-behind
-returns-in_err-behind c =
-    let p = err_from_is_err_and c.from_residual-in_err-behind.result c.from_residual-in_err-behind.ensures.1 in
+pub returns-in_err-head : goal.returns-in_err-head
+returns-in_err-head c =
+    let p = err_from_is_err_and c.from_residual-in_err-head.result c.from_residual-in_err-head.ensures.1 in
     rw (p.1, p.2) (record {
-      read = number_last c.args.text.bytes.now c.args.head (state_limit c.args.states) c.in_ok-value.value c.in_ok-value.ensures (keeps_where _ OutOfRange (lt-leb c.args.states c.in_ok-value.value c.if-value-states.false)) _ c.in_err-behind.ensures.scanned;
+      read = number_last c.args.text.bytes.now c.args.head (state_limit c.args.states) c.in_ok-value.value c.in_ok-value.ensures (keeps_where _ OutOfRange (lt-leb c.args.states c.in_ok-value.value c.if-value-states.false)) _ c.in_err-head.ensures.scanned;
       below = tt;
       here = tt;
       ahead = tt;
@@ -36,8 +36,8 @@ returns-in_err-behind c =
 
 pub returns : goal.returns
 returns c = record {
-  read = number_here c.args.text.bytes.now c.args.head (state_limit c.args.states) c.in_ok-value.value c.in_ok-value.ensures (keeps_where _ OutOfRange (lt-leb c.args.states c.in_ok-value.value c.if-value-states.false)) c.in_ok-behind.behind c.in_ok-behind.ensures.scanned;
+  read = number_here c.args.text.bytes.now c.args.head (state_limit c.args.states) c.in_ok-value.value c.in_ok-value.ensures (keeps_where _ OutOfRange (lt-leb c.args.states c.in_ok-value.value c.if-value-states.false)) c.in_ok-head.head c.in_ok-head.ensures.scanned;
   below = c.if-value-states.false;
   here = c.in_ok-value.ensures;
-  ahead = c.in_ok-behind.ensures.ahead;
+  ahead = c.in_ok-head.ensures.ahead;
 }

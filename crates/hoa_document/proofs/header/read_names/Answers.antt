@@ -1,37 +1,35 @@
--- Each name that is read is held in the array, where the next one is compared with it.
-use Rattle.std.proofs.Common.{◌≡◌, ◌-◌, Ok, Err, sym, refl, ◌∙◌, arith, length-set}
+-- Each name that is read is held behind the others, and the next one is compared with them.
+use Rattle.std.proofs.Common.{◌≡◌, ◌-◌, Ok, Err, sym, ◌∙◌, arith}
 use Rattle.std.proofs.lemmas.Result.{err_from_is_err_and}
-use Rattle.hoa_tokens.specs.declared.fault.Refusal.TheVariants.{Repeated}
-use Rattle.hoa_document.proofs.Leading.{same_fault}
-use Rattle.hoa_document.proofs.HeldNames.{name_held, no_name, name_repeated, name_read}
+use Rattle.hoa_document.proofs.HeldNames.{no_name, name_repeated, name_read}
 use Rattle.hoa_document.proofs.header.read_names.Goals as goal
 
-pub loop-i-init : goal.loop-i-init
-loop-i-init c = (refl, λ n row r. let all : c.args.signals - 0 ≡ c.args.signals = omega arith in rw all r)
+pub loop-names-init : goal.loop-names-init
+loop-names-init c =
+    let all : c.args.signals - 0 ≡ c.args.signals = omega arith in
+    (omega (arith, c.new-names.ensures.count), λ n row r. rw (c.new-names.ensures.names, c.new-names.ensures.count, all) r)
 
 pub returns-in_default : goal.returns-in_default
 returns-in_default c n row r =
-    rw c.unexpected.ensures (no_name c.loop-i.i c.args.signals c.loop-i-test.true (c.loop-i.invariant.1 n row r) c.in_default.not-Name)
+    rw c.at.ensures (no_name c.loop-names.names.count c.args.signals c.loop-names-test.true (c.loop-names.invariant.1 n row r) c.in_default.not-Name)
 
-pub returns-then-is_repeated : goal.returns-then-is_repeated
-returns-then-is_repeated c n row r =
-    let f = same_fault c.broken.result Repeated c.loop-i.head.place c.broken.ensures.0 c.broken.ensures.1 c.broken.ensures.2 in
-    rw f (name_repeated c.loop-i.i c.args.signals c.loop-i-test.true (c.loop-i.invariant.1 n row r) c.in-Name.name c.in-Name.is (sym c.is_repeated.ensures ∙ c.if-is_repeated.true))
+pub returns-then-contains : goal.returns-then-contains
+returns-then-contains c n row r =
+    rw c.at-then-contains.ensures (name_repeated c.loop-names.names.count c.args.signals c.loop-names-test.true (c.loop-names.invariant.1 n row r) c.in-Name.name c.in-Name.is (sym c.contains.ensures ∙ c.if-contains.true))
 
 pub returns-in_err-head : goal.returns-in_err-head
 returns-in_err-head c n row r =
     let p = err_from_is_err_and c.from_residual.result c.from_residual.ensures.1 in
-    rw (p.1, p.2) (name_read c.loop-i.i c.args.signals c.loop-i-test.true (c.loop-i.invariant.1 n row r) c.in-Name.name c.in-Name.is (sym c.is_repeated.ensures ∙ c.if-is_repeated.false) (Err _) c.in_err-head.ensures.scanned)
+    rw (p.1, p.2) (name_read c.loop-names.names.count c.args.signals c.loop-names-test.true (c.loop-names.invariant.1 n row r) c.in-Name.name c.in-Name.is (sym c.contains.ensures ∙ c.if-contains.false) (Err _) c.in_err-head.ensures.scanned)
 
-pub loop-i-preserved : goal.loop-i-preserved
-loop-i-preserved c = (
-  simp length-set c.loop-i.invariant.0,
+pub loop-names-preserved : goal.loop-names-preserved
+loop-names-preserved c = (
+  omega (arith, c.push.ensures.count),
   λ n row r.
-      rw (name_held c.loop-i.list c.loop-i.i c.in-Name.name (omega arith)) (name_read c.loop-i.i c.args.signals c.loop-i-test.true (c.loop-i.invariant.1 n row r) c.in-Name.name c.in-Name.is (sym c.is_repeated.ensures ∙ c.if-is_repeated.false) (Ok c.in_ok-head.head) c.in_ok-head.ensures.scanned),
+      rw (c.push.ensures.names, c.push.ensures.count) (name_read c.loop-names.names.count c.args.signals c.loop-names-test.true (c.loop-names.invariant.1 n row r) c.in-Name.name c.in-Name.is (sym c.contains.ensures ∙ c.if-contains.false) (Ok c.in_ok-head.head) c.in_ok-head.ensures.scanned),
 )
 
 pub returns : goal.returns
 returns c n row r =
-    let done : c.loop-i.i ≡ c.args.signals = omega arith in
-    let left : c.args.signals - c.loop-i.i ≡ 0 = omega arith in
-    rw (left, done) at (c.loop-i.invariant.1 n row r)
+    let left : c.args.signals - c.loop-names.names.count ≡ 0 = omega arith in
+    rw left at (c.loop-names.invariant.1 n row r)

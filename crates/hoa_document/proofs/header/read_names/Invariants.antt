@@ -1,11 +1,14 @@
 -- What the loop over the names keeps.
-use Rattle.std.proofs.Common.{◌≡◌, ℕ, ◌-◌, length}
+use Rattle.std.proofs.Common.{ℕ, ◌-◌, ◌≤◌}
 use Rattle.hoa_grammar.specs.Rows.{Row, none}
 use Rattle.hoa_grammar.specs.Machine.{at, names}
 use Rattle.hoa_grammar.specs.Reading.{Reached}
-use Rattle.hoa_document.specs.Naming.{first_names}
+use Rattle.hoa_document.specs.Naming.{row_of}
 use Rattle.hoa_document.proofs.header.read_names.Given as goal
 
--- the first i names are read, and held in the array
-abbrev pub invariant-loop-i : goal.invariant-loop-i
-invariant-loop-i l = (length l.list ≡ 4) × ((n : ℕ) (row : Row ℕ) → Reached l.text.bytes.now (at (names n row none l.signals)) l.initial.head → Reached l.text.bytes.now (at (names n row (first_names l.list l.i) (l.signals - l.i))) l.head)
+-- so many names are read, and held
+abbrev pub invariant-loop-names : goal.invariant-loop-names
+invariant-loop-names l = (l.names.count ≤ l.signals) × ((n : ℕ) (row : Row ℕ) → Reached l.text.bytes.now (at (names n row none l.signals)) l.initial.head → Reached l.text.bytes.now (at (names n row (row_of l.names) (l.signals - l.names.count))) l.head)
+
+abbrev pub decreases-loop-names : goal.decreases-loop-names
+decreases-loop-names l = l.signals - l.names.count

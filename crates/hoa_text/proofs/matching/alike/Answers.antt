@@ -1,16 +1,10 @@
--- Rows are alike exactly where all their names are.
-use Rattle.std.proofs.Common.{T, sym, subst, arith, below_more}
-use Rattle.hoa_text.proofs.NameRows.{rows_alike, names_alike}
+-- Lists of names are alike exactly where their rows are.
+use Rattle.hoa_document.proofs.HeldNames.{all_held}
+use Rattle.hoa_text.proofs.NameRows.{names_alike}
 use Rattle.hoa_text.proofs.matching.alike.Goals as goal
 
-pub returns-then-not-is_same : goal.returns-then-not-is_same
-returns-then-not-is_same c = (
-  λ no. absurd no,
-  λ same. subst T c.if-not-is_same.true (c.is_same.ensures.1 (names_alike c.args.first.now c.args.second.now c.args.count same c.loop-i.i c.loop-i-test.true)),
-)
-
-pub loop-i-preserved : goal.loop-i-preserved
-loop-i-preserved c = below_more _ _ c.loop-i.invariant (c.is_same.ensures.0 (subst T (sym c.if-not-is_same.false) tt))
-
 pub returns : goal.returns
-returns c = (λ yes. rows_alike c.args.first.now c.args.second.now c.args.count (λ k inside. c.loop-i.invariant k (omega arith)), λ same. tt)
+returns c =
+    let first = c.as_slice.ensures in
+    let second = c.as_slice-2.ensures in
+    rw (c.eq.ensures, first.names, second.names) (names_alike c.args.first.now c.args.second.now (all_held c.args.first.now first.names first.len) (all_held c.args.second.now second.names second.len))

@@ -1,23 +1,17 @@
 -- What the names of the two texts come to.
-use Rattle.std.proofs.Common.{T, sym, refl, subst, inl, inr}
-use Rattle.hoa_text.proofs.NameRows.{as_many, same_size, held_alike, rows_same}
+use Rattle.std.proofs.Common.{refl, ◌∙◌, sym, inl, inr}
+use Rattle.std.proofs.lemmas.Bool.Decides.{not_from_Decides}
+use Rattle.hoa_text.proofs.NameRows.{names_read, as_many, same_size}
 use Rattle.hoa_text.proofs.matching.match_names.Goals as goal
 
 pub returns-then-left-right : goal.returns-then-left-right
 returns-then-left-right c =
-    let l = c.in-Ok.ensures.names in
-    let r = c.in-Ok-read_names.ensures.names in
-    inl (refl, (l.0, r.0, l.1, r.1, λ same. c.if-left-right.true (as_many _ _ _ _ l.2 r.2 same)))
+    let l = names_read _ c.args.first.now c.in_ok-left.left c.read_names.result _ c.in_ok-left.ensures.cases c.in_ok-left.ensures.variant c.read_names.ensures in
+    let r = names_read _ c.args.second.now c.in_ok-right.right c.read_names-2.result _ c.in_ok-right.ensures.cases c.in_ok-right.ensures.variant c.read_names-2.ensures in
+    inl (refl, (l.0, r.0, l.1, r.1, λ same. c.if-left-right.true (as_many _ _ c.in_ok-left.left c.in_ok-right.right l r same)))
 
 pub returns-then-not-alike : goal.returns-then-not-alike
 returns-then-not-alike c =
-    let l = c.in-Ok.ensures.names in
-    let r = c.in-Ok-read_names.ensures.names in
-    let many = c.if-left-right.false in
-    inr (refl, (l.0, r.0, l.1, r.1, same_size _ _ _ _ l.2 r.2 many, λ same. subst T c.if-not-alike.true (c.alike.ensures.1 (held_alike _ _ _ _ l.2 r.2 many same))))
-
-pub returns : goal.returns
-returns c =
-    let l = c.in-Ok.ensures.names in
-    let r = c.in-Ok-read_names.ensures.names in
-    (l.0, r.0, l.1, r.1, rows_same _ _ _ _ l.2 r.2 c.if-left-right.false (c.alike.ensures.0 (subst T (sym c.if-not-alike.false) tt)))
+    let l = names_read _ c.args.first.now c.in_ok-left.left c.read_names.result _ c.in_ok-left.ensures.cases c.in_ok-left.ensures.variant c.read_names.ensures in
+    let r = names_read _ c.args.second.now c.in_ok-right.right c.read_names-2.result _ c.in_ok-right.ensures.cases c.in_ok-right.ensures.variant c.read_names-2.ensures in
+    inr (refl, (l.0, r.0, l.1, r.1, same_size _ _ c.in_ok-left.left c.in_ok-right.right l r c.if-left-right.false, λ same. not_from_Decides _ c.alike.ensures c.if-not-alike.true (sym l.2 ∙ same ∙ r.2)))
