@@ -24,7 +24,5 @@ pub fn check_words(n: u32, strip: usize, work: usize) -> Result<(), LenderRefusa
 pub fn clear(words: &mut [u32])
     ensures { words.new ≡ replicate (length words.old) 0 }
 {
-    for word in words.iter_mut() {
-        *word = 0;
-    }
+    words.fill(0);
 }

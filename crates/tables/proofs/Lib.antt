@@ -1,4 +1,3 @@
 pub mod Bits
 pub mod Added
-pub mod Copied
 pub mod Steps

@@ -1,2 +1,4 @@
 pub mod Refusals
 pub mod Cells
+pub mod Frames
+pub mod Meanings

@@ -1,41 +1,35 @@
 //! The five questions, asked of a table.
-ghost use Rattle.omega.specs.Tables.{table};
 ghost use Rattle.omega.proofs.Soundness.{table_sound};
+ghost use Rattle.tables.specs.Meanings.{table_meaning};
 
 use crate::table::Table;
 use automaton::Automaton;
 
 impl Automaton for Table<'_> {
-    ghost meaning = { λ x. table x.states x.signals x.starts x.goods x.cells.now };
+    ghost meaning = { table_meaning };
 
-    ghost sound = { λ x. table_sound x.states x.signals x.starts x.goods x.cells.now x.few x.narrow x.starts_in x.goods_in x.letters };
+    ghost sound = { λ x. table_sound x.frame.states x.frame.signals x.frame.starts x.frame.goods x.cells.now x.within.few x.within.narrow x.within.starts_in x.within.goods_in x.letters };
 
     fn states(&self) -> u32 {
-        self.states
+        self.frame.states
     }
 
     fn signals(&self) -> u32 {
-        self.signals
+        self.frame.signals
     }
 
     fn is_start(&self, s: u32) -> bool {
-        s < self.states && (self.starts >> s) % 2 == 1
+        self.frame.is_start(s)
     }
 
     fn is_good(&self, s: u32) -> bool {
-        s < self.states && (self.goods >> s) % 2 == 1
+        self.frame.is_good(s)
     }
 
     fn next(&self, s: u32, a: u32, f: u32) -> Option<u32> {
-        if s >= self.states || a >= 1 << self.signals {
+        if s >= self.frame.states || a >= 1 << self.frame.signals {
             return None;
         }
-        for t in f..self.states {
-            let cell = self.cells[(s * self.states + t) as usize];
-            if (cell >> a) % 2 == 1 {
-                return Some(t);
-            }
-        }
-        None
+        self.first_in_row(s, a, f)
     }
 }

@@ -21,3 +21,11 @@ impl LenderRefusal {
         self as u8
     }
 }
+
+impl From<LenderRefusal> for u8 {
+    ghost from_gives = { λ refusal number. number ≡ lender_number refusal };
+
+    fn from(refusal: LenderRefusal) -> u8 {
+        refusal as u8
+    }
+}

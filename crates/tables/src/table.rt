@@ -1,45 +1,41 @@
 //! An automaton over lent cells.
 ghost use Rattle.std.specs.Prelude.{◌≡◌, ℕ, ◌*◌, ◌^◌, ◌<◌, ◌≤◌, length, take, drop, MatchResult, slice_index};
-ghost use Rattle.omega.specs.Automata.{most_signals};
 ghost use Rattle.tables.specs.declared.refusal.LenderRefusal.TheVariants.{TooFewCells};
-ghost use Rattle.tables.specs.Cells.{most_table_states, table_cells};
+ghost use Rattle.tables.specs.Cells.{table_cells};
+ghost use Rattle.tables.specs.Frames.{IsWithinLimits};
 
 use crate::draft::{Draft, TABLE_CELLS};
+use crate::frame::Frame;
 use crate::refusal::LenderRefusal;
 
 /// An automaton of at most 64 states: bit a of cell s × states + t is 1 exactly for a step (s, a, t).
 #[derive(Drop)]
 pub struct Table<'a> {
+    pub(crate) frame: Frame,
     pub(crate) cells: &'a mut [u16],
-    pub(crate) states: u32,
-    pub(crate) signals: u32,
-    pub(crate) starts: u64,
-    pub(crate) goods: u64,
-    ghost few: { states ≤ most_table_states },
-    ghost narrow: { signals ≤ most_signals },
-    ghost room: { states * states ≤ length cells.now },
-    ghost starts_in: { starts < 2 ^ states },
-    ghost goods_in: { goods < 2 ^ states },
-    ghost letters: { (k : ℕ) → k < states * states → slice_index cells.now k < 2 ^ (2 ^ signals) },
+    ghost within: { IsWithinLimits frame },
+    ghost room: { frame.states * frame.states ≤ length cells.now },
+    ghost letters: { (k : ℕ) → k < frame.states * frame.states → slice_index cells.now k < 2 ^ (2 ^ frame.signals) },
 }
 
 impl<'a> Table<'a> {
     /// A table without states over any cells, which it leaves as they are.
     pub fn blank(cells: &'a mut [u16]) -> Table<'a>
         ensures lends { (result.cells.ghost_name ≡ cells.entry.ghost_name) × (result.cells.now ≡ cells.old) }
-        ensures blank { (result.states ≡ 0) × (result.signals ≡ 0) × (result.starts ≡ 0) × (result.goods ≡ 0) }
+        ensures blank { (result.frame.states ≡ 0) × (result.frame.signals ≡ 0) × (result.frame.starts ≡ 0) × (result.frame.goods ≡ 0) }
     {
         Table {
+            frame: Frame::blank(),
             cells,
-            states: 0,
-            signals: 0,
-            starts: 0,
-            goods: 0,
         }
     }
 }
 
 impl Table<'_> {
+    ghost use Rattle.omega.specs.Automata.{Lowest};
+    ghost use Rattle.automaton.specs.Questions.{Within};
+    ghost use Rattle.tables.specs.Meanings.{table_meaning};
+
     /// Whether there are cells enough to fill.
     pub fn check_room(&self) -> Result<(), LenderRefusal>
         ensures { MatchResult result (λ _. table_cells ≤ length self.now.cells.now) (λ e. (e ≡ TooFewCells) × (length self.now.cells.now < table_cells)) }
@@ -54,32 +50,24 @@ impl Table<'_> {
     pub fn fill(&mut self, draft: &Draft) -> Result<(), LenderRefusal>
         ensures lender { self.new.cells.ghost_name ≡ self.old.cells.ghost_name }
         ensures cells { MatchResult result (λ _. (table_cells ≤ length self.old.cells.now) × (take table_cells self.new.cells.now ≡ draft.now.cells) × (drop table_cells self.new.cells.now ≡ drop table_cells self.old.cells.now)) (λ e. (e ≡ TooFewCells) × (length self.old.cells.now < table_cells) × (self.new.cells.now ≡ self.old.cells.now)) }
-        ensures table { MatchResult result (λ _. (self.new.states ≡ draft.now.states) × (self.new.signals ≡ draft.now.signals) × (self.new.starts ≡ draft.now.starts) × (self.new.goods ≡ draft.now.goods)) (λ _. (self.new.states ≡ self.old.states) × (self.new.signals ≡ self.old.signals) × (self.new.starts ≡ self.old.starts) × (self.new.goods ≡ self.old.goods)) }
+        ensures frame { MatchResult result (λ _. self.new.frame ≡ draft.now.frame) (λ _. self.new.frame ≡ self.old.frame) }
     {
         self.check_room()?;
-        self.copy_cells(draft);
-        self.states = draft.states;
-        self.signals = draft.signals;
-        self.starts = draft.starts;
-        self.goods = draft.goods;
+        // Without states meanwhile, since a cell may hold what is no letter for the signals that the table still has.
+        self.frame = Frame::blank();
+        self.cells[..TABLE_CELLS].copy_from_slice(&draft.cells);
+        self.frame = draft.frame;
         Ok(())
     }
 
-    /// Copies the cells of a draft. No state is left, since a cell may hold what is no letter for the signals that the table still has.
-    fn copy_cells(&mut self, draft: &Draft)
-        requires { table_cells ≤ length self.old.cells.now }
-        ensures blank { self.new.states ≡ 0 }
-        ensures lender { self.new.cells.ghost_name ≡ self.old.cells.ghost_name }
-        ensures front { take table_cells self.new.cells.now ≡ draft.now.cells }
-        ensures back { drop table_cells self.new.cells.now ≡ drop table_cells self.old.cells.now }
-        ensures room { draft.now.states * draft.now.states ≤ length self.new.cells.now }
-        ensures letters { (k : ℕ) → k < draft.now.states * draft.now.states → slice_index self.new.cells.now k < 2 ^ (2 ^ draft.now.signals) }
+    /// The first state, from `f` on, whose cell in the row of the state `s` has the bit of the letter `a`.
+    pub(crate) fn first_in_row(&self, s: u32, a: u32, f: u32) -> Option<u32>
+        requires state { s < self.now.frame.states }
+        requires letter { a < 2 ^ self.now.frame.signals }
+        ensures is { Lowest ((table_meaning self.now).step s a) f result }
+        ensures lands { Within self.now.frame.states result }
     {
-        self.states = 0;
-        self.starts = 0;
-        self.goods = 0;
-        for i in 0..TABLE_CELLS {
-            self.cells[i] = draft.cells[i];
-        }
+        let n = self.frame.states;
+        (f..n).find(|&t| (self.cells[(s * n + t) as usize] >> a) % 2 == 1)
     }
 }

@@ -1,25 +1,30 @@
 -- One cell is united with a set of letters, and the limits stay kept.
-use Rattle.std.proofs.Common.{refl, arith}
+use Rattle.std.proofs.Common.{arith}
 use Rattle.tables.proofs.Added.{cell_inside, steps_added, steps_added_in, steps_added_rest}
 use Rattle.tables.proofs.draft.Draft.add_steps.Goals as goal
 
 pub bounds-self-at : goal.bounds-self-at
-bounds-self-at c = cell_inside c.args.self.now.states c.args.s c.args.t c.args.self.now.few (omega arith) (omega arith)
+bounds-self-at c =
+    let x = c.args.self.now in
+    cell_inside x.frame.states c.args.s c.args.t x.within.few (omega arith) (omega arith)
 
 pub bounds-self-at-2 : goal.bounds-self-at-2
-bounds-self-at-2 c = cell_inside c.args.self.now.states c.args.s c.args.t c.args.self.now.few (omega arith) (omega arith)
+bounds-self-at-2 c =
+    let x = c.args.self.now in
+    cell_inside x.frame.states c.args.s c.args.t x.within.few (omega arith) (omega arith)
 
 pub invariant_of-self : goal.invariant_of-self
 invariant_of-self c =
     let x = c.args.self.now in
-    let letters = steps_added_in x.states x.signals c.args.s c.args.letters c.args.t _ x.cells (omega arith) x.few (omega arith) (omega arith) c.all_letters.ensures x.letters in
-    let rest = steps_added_rest x.states x.signals c.args.s c.args.letters c.args.t _ x.cells (omega arith) x.few (omega arith) (omega arith) c.all_letters.ensures x.rest in
-    record { few = x.few; narrow = x.narrow; starts_in = x.starts_in; goods_in = x.goods_in; letters = letters; rest = rest }
-
-pub returns : goal.returns
-returns c =
-    let x = c.args.self.now in
+    let f = x.frame in
     record {
-      steps = steps_added x.states x.signals c.args.s c.args.letters c.args.t _ x.cells (omega arith) x.few (omega arith) (omega arith) c.all_letters.ensures;
-      same = (refl, refl, refl, refl);
+      within = x.within;
+      letters = steps_added_in f.states f.signals c.args.s c.args.letters c.args.t _ x.cells (omega arith) x.within.few (omega arith) (omega arith) c.all_letters.ensures x.letters;
+      rest = steps_added_rest f.states f.signals c.args.s c.args.letters c.args.t _ x.cells (omega arith) x.within.few (omega arith) (omega arith) c.all_letters.ensures x.rest;
     }
+
+pub returns-clause-steps : goal.returns-clause-steps
+returns-clause-steps c =
+    let x = c.args.self.now in
+    let f = x.frame in
+    steps_added f.states f.signals c.args.s c.args.letters c.args.t _ x.cells (omega arith) x.within.few (omega arith) (omega arith) c.all_letters.ensures

@@ -1,6 +1,6 @@
 -- The shift gives the set of `s` alone.
 use Rattle.tables.proofs.Added.{state_added, state_added_in}
-use Rattle.tables.proofs.draft.with_state.Goals as goal
+use Rattle.tables.proofs.frame.with_state.Goals as goal
 
 pub returns : goal.returns
 returns c = record {

@@ -1,6 +1,6 @@
 -- A mask leaves the states of the set that are below the bound.
 use Rattle.tables.proofs.Added.{states_added, states_added_in}
-use Rattle.tables.proofs.draft.with_states.Goals as goal
+use Rattle.tables.proofs.frame.with_states.Goals as goal
 
 pub returns : goal.returns
 returns c = record {
