@@ -4,6 +4,7 @@ use lib.Bits.{bit_or}
 use Rattle.std.proofs.lemmas.Bool.{le-leb, lt-leb, eq-eqb}
 use Rattle.omega.specs.Signals.{bit}
 use Rattle.tables.specs.declared.draft.Draft.{Draft}
+use Rattle.tables.specs.Frames.{SameButGoods}
 use Rattle.tables.specs.Cells.{StateAdded}
 use Rattle.hoa_tokens.specs.declared.fault.Fault.{Fault}
 use Rattle.hoa_tokens.specs.declared.fault.Refusal.TheVariants.{Unexpected, OutOfRange, Repeated}
@@ -73,9 +74,9 @@ module _ {text : List ℕ} (h : Header) (bs : Row Block) (from : ℕ) {head : Pl
   pub brace_opens : lexeme head.token ≡ mark OpenBrace → (q : Result Placed Fault) → Scanned text (clipped text head.next) (found q) → MatchResult q (Reached text (due (number 0 ∷ mark CloseBrace ∷ []) (edges (opened h bs from true)))) (Refused text)
   brace_opens is = stands_on (stands_there r) (λ e. mark_not_end OpenBrace (sym is ∙ e)) _ (ap (step (at (good h bs from))) is)
 
-pub block_good : {text : List ℕ} (h : Header) (bs : Row Block) (from : ℕ) {head : Placed} → Reached text (at (edges (opened h bs from true))) head → (old draft : Draft) → from < h.states → Drafted h bs old → StateAdded old.states from old.goods draft.goods → (draft.states ≡ old.states) × (draft.signals ≡ old.signals) × (draft.starts ≡ old.starts) × (draft.cells ≡ old.cells) → (b : Block) × InBlock text h bs b from draft head
-block_good h bs from r old draft inside d added same =
-    ((opened h bs from true).block, record { state = refl; drafted = drafted_good h bs from old draft inside d added same; stands = stands_there r })
+pub block_good : {text : List ℕ} (h : Header) (bs : Row Block) (from : ℕ) {head : Placed} → Reached text (at (edges (opened h bs from true))) head → (old draft : Draft) → from < h.states → Drafted h bs old → StateAdded old.frame.states from old.frame.goods draft.frame.goods → SameButGoods old.frame draft.frame → draft.cells ≡ old.cells → (b : Block) × InBlock text h bs b from draft head
+block_good h bs from r old draft inside d added same cells =
+    ((opened h bs from true).block, record { state = refl; drafted = drafted_good h bs from old draft inside d added same cells; stands = stands_there r })
 
 -- one more block begins
 pub block_begins : {text : List ℕ} (h : Header) (bs : Row Block) {head : Placed} → Stands text (at (blocks h bs)) head → lexeme head.token ≡ word (codes "State:") → (q : Result Placed Fault) → Scanned text (clipped text head.next) (found q) → MatchResult q (Reached text (at (state h bs))) (Refused text)

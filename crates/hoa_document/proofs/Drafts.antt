@@ -7,6 +7,8 @@ use Rattle.std.proofs.lemmas.Nat.{one_shl, or_lt, mod_below, pow_pos}
 use Rattle.std.proofs.lemmas.Bool.{true≢false, cases_lt, cases_eq, lt-ltb, le-ltb, eq-eqb, ne_eqb, and_left, and_right}
 use Rattle.omega.specs.Signals.{bit}
 use Rattle.tables.specs.declared.draft.Draft.{Draft}
+use Rattle.tables.specs.declared.frame.Frame.{Frame}
+use Rattle.tables.specs.Frames.{SameButStarts, SameButGoods}
 use Rattle.tables.specs.Cells.{table_cells, StateAdded, StatesAdded, StepsAdded}
 use Rattle.tables.proofs.Bits.{bit-or, bit_power, bit_past}
 use Rattle.tables.proofs.Added.{zero_everywhere}
@@ -29,25 +31,25 @@ all_below n set k small =
     (cases_lt k n)
 
 -- a new draft with the starts holds the header and no block
-module _ (h : Header) (set : ℕ) (made draft : Draft) (n : made.states ≡ h.states) (p : made.signals ≡ size h.names) (unstarted : made.starts ≡ 0) (ungood : made.goods ≡ 0) (unmoved : made.cells ≡ replicate table_cells 0) (added : StatesAdded made.states set made.starts draft.starts) (same : (draft.states ≡ made.states) × (draft.signals ≡ made.signals) × (draft.goods ≡ made.goods) × (draft.cells ≡ made.cells)) (in_row : InRow set h.starts) (small : set < 2 ^ h.states) where
-  starts_drafted : (k : ℕ) → bit k draft.starts ≡ some (eqb k) h.starts
+module _ (h : Header) (set : ℕ) (made draft : Draft) (n : made.frame.states ≡ h.states) (p : made.frame.signals ≡ size h.names) (unstarted : made.frame.starts ≡ 0) (ungood : made.frame.goods ≡ 0) (unmoved : made.cells ≡ replicate table_cells 0) (added : StatesAdded made.frame.states set made.frame.starts draft.frame.starts) (same : SameButStarts made.frame draft.frame) (cells : draft.cells ≡ made.cells) (in_row : InRow set h.starts) (small : set < 2 ^ h.states) where
+  starts_drafted : (k : ℕ) → bit k draft.frame.starts ≡ some (eqb k) h.starts
   starts_drafted k =
       added k
-      ∙ ap (λ (x : ℕ). bit k x || (bit k set && ltb k made.states)) unstarted
-      ∙ ap (λ (b : Bool). b || (bit k set && ltb k made.states)) (no_bit k)
+      ∙ ap (λ (x : ℕ). bit k x || (bit k set && ltb k made.frame.states)) unstarted
+      ∙ ap (λ (b : Bool). b || (bit k set && ltb k made.frame.states)) (no_bit k)
       ∙ ap (λ (x : ℕ). bit k set && ltb k x) n
       ∙ all_below h.states set k small
       ∙ in_row k
 
   no_steps : (k a : ℕ) → bit a (get_or draft.cells k 0) ≡ false
-  no_steps k a = ap (λ (xs : List ℕ). bit a (get_or xs k 0)) (same.3 ∙ unmoved) ∙ ap (bit a) (zero_everywhere table_cells k) ∙ no_bit a
+  no_steps k a = ap (λ (xs : List ℕ). bit a (get_or xs k 0)) (cells ∙ unmoved) ∙ ap (bit a) (zero_everywhere table_cells k) ∙ no_bit a
 
   pub drafted_empty : Drafted h none draft
   drafted_empty = record {
-    states = same.0 ∙ n;
-    signals = same.1 ∙ p;
+    states = same.states ∙ n;
+    signals = same.signals ∙ p;
     starts = starts_drafted;
-    goods = λ s. ap (bit s) (same.2 ∙ ungood) ∙ no_bit s;
+    goods = λ s. ap (bit s) (same.goods ∙ ungood) ∙ no_bit s;
     steps = λ s a t. and_right _ _ (no_steps (s * h.states + t) a);
   }
 
@@ -63,17 +65,17 @@ module _ (h : Header) (bs : Row Block) (from : ℕ) where
   }
 
   -- one of a good state adds that state
-  pub drafted_good : (old draft : Draft) → from < h.states → Drafted h bs old → StateAdded old.states from old.goods draft.goods → (draft.states ≡ old.states) × (draft.signals ≡ old.signals) × (draft.starts ≡ old.starts) × (draft.cells ≡ old.cells) → Drafted h (blocks_with (opened h bs from true)) draft
-  drafted_good old draft inside d added same = record {
-    states = same.0 ∙ d.states;
-    signals = same.1 ∙ d.signals;
-    starts = λ s. ap (bit s) same.2 ∙ d.starts s;
+  pub drafted_good : (old draft : Draft) → from < h.states → Drafted h bs old → StateAdded old.frame.states from old.frame.goods draft.frame.goods → SameButGoods old.frame draft.frame → draft.cells ≡ old.cells → Drafted h (blocks_with (opened h bs from true)) draft
+  drafted_good old draft inside d added same cells = record {
+    states = same.states ∙ d.states;
+    signals = same.signals ∙ d.signals;
+    starts = λ s. ap (bit s) same.starts ∙ d.starts s;
     goods = λ s.
         added s
-        ∙ ap (λ (b : Bool). bit s old.goods || (eqb s from && b)) (lt-ltb from old.states (omega (arith, d.states)))
-        ∙ or_comm (bit s old.goods) (eqb s from && true)
+        ∙ ap (λ (b : Bool). bit s old.frame.goods || (eqb s from && b)) (lt-ltb from old.frame.states (omega (arith, d.states)))
+        ∙ or_comm (bit s old.frame.goods) (eqb s from && true)
         ∙ ap (λ (b : Bool). (eqb s from && true) || b) (d.goods s);
-    steps = λ s a t. ap (λ (xs : List ℕ). (ltb s h.states && ltb t h.states) && bit a (get_or xs (s * h.states + t) 0)) same.3 ∙ (drafted_plain old d).steps s a t;
+    steps = λ s a t. ap (λ (xs : List ℕ). (ltb s h.states && ltb t h.states) && bit a (get_or xs (s * h.states + t) 0)) cells ∙ (drafted_plain old d).steps s a t;
   }
 
 -- a label's letters, and no others, are added
@@ -127,7 +129,7 @@ edge_joins x o k l f e es bs old new =
     ∙ ap (λ (b : Bool). ((f && es) || bs) || b) (sym (and_assoc x k l) ∙ ap (λ (b : Bool). b && l) new)
     ∙ one_edge_more f e l es bs
 
-module _ (cur : Current) (ls : Letters) (letters to : ℕ) (old draft : Draft) (from_in : cur.block.state < cur.header.states) (to_in : to < cur.header.states) (means : Means (size cur.header.names) (letters_hold (size cur.header.names) ls) letters) (d : Drafted cur.header (blocks_with cur) old) (added : StepsAdded old.states old.signals cur.block.state letters to old.cells draft.cells) where
+module _ (cur : Current) (ls : Letters) (letters to : ℕ) (old draft : Draft) (from_in : cur.block.state < cur.header.states) (to_in : to < cur.header.states) (means : Means (size cur.header.names) (letters_hold (size cur.header.names) ls) letters) (d : Drafted cur.header (blocks_with cur) old) (added : StepsAdded old.frame.states old.frame.signals cur.block.state letters to old.cells draft.cells) where
   abbrev n : ℕ
   n = cur.header.states
 
@@ -138,7 +140,7 @@ module _ (cur : Current) (ls : Letters) (letters to : ℕ) (old draft : Draft) (
   from = cur.block.state
 
   added_there : StepsAdded n p from letters to old.cells draft.cells
-  added_there = subst (λ (m : ℕ). StepsAdded m p from letters to old.cells draft.cells) d.states (subst (λ (q : ℕ). StepsAdded old.states q from letters to old.cells draft.cells) d.signals added)
+  added_there = subst (λ (m : ℕ). StepsAdded m p from letters to old.cells draft.cells) d.states (subst (λ (q : ℕ). StepsAdded old.frame.states q from letters to old.cells draft.cells) d.signals added)
 
   added_here : (k a : ℕ) → bit a (get_or draft.cells k 0) ≡ (bit a (get_or old.cells k 0) || (eqb k (from * n + to) && letters_hold p ls a))
   added_here k a =
@@ -148,12 +150,12 @@ module _ (cur : Current) (ls : Letters) (letters to : ℕ) (old draft : Draft) (
       ∙ ap (λ (b : Bool). bit a (get_or old.cells k 0) || (eqb k (from * n + to) && b)) (letters_same p ls letters a means)
 
   -- an edge adds its steps
-  pub drafted_edge : (draft.states ≡ old.states) × (draft.signals ≡ old.signals) × (draft.starts ≡ old.starts) × (draft.goods ≡ old.goods) → Drafted cur.header (blocks_with (with_edge cur ls to)) draft
+  pub drafted_edge : draft.frame ≡ old.frame → Drafted cur.header (blocks_with (with_edge cur ls to)) draft
   drafted_edge same = record {
-    states = same.0 ∙ d.states;
-    signals = same.1 ∙ d.signals;
-    starts = λ s. ap (bit s) same.2 ∙ d.starts s;
-    goods = λ s. ap (bit s) same.3 ∙ d.goods s;
+    states = ap (λ (f : Frame). f.states) same ∙ d.states;
+    signals = ap (λ (f : Frame). f.signals) same ∙ d.signals;
+    starts = λ s. ap (λ (f : Frame). bit s f.starts) same ∙ d.starts s;
+    goods = λ s. ap (λ (f : Frame). bit s f.goods) same ∙ d.goods s;
     steps = λ s a t.
         ap (λ (b : Bool). (ltb s n && ltb t n) && b) (added_here (s * n + t) a)
         ∙ edge_joins (ltb s n && ltb t n) (bit a (get_or old.cells (s * n + t) 0)) (eqb (s * n + t) (from * n + to)) (letters_hold p ls a) (eqb s from) (eqb t to) (block_steps p cur.block a t) _ (d.steps s a t) (same_cell n s t from to from_in to_in);

@@ -62,7 +62,7 @@ target_read {text = text} cur n p x states l q read =
     (read l.state go (subst (λ (m : ℕ). step l.state y ≡ number_only (λ t. goes (state_limit m t) (go t)) y) states l.target) l.stands)
 
 -- the edge is added to the block in hand
-pub edge_read : {text : List ℕ} (h : Header) (bs : Row Block) (b : Block) (n p from : ℕ) (old draft : Draft) (head : Placed) (x : Read ℕ) (to : ℕ) (behind : Placed) → Sized h n p → from < n → to < n → InBlock text h bs b from old head → (l : LettersRead text (current h bs b) p x) → Reached text (at (edges (with_edge (current h bs b) l.letters to))) behind → StepsAdded old.states old.signals from x.value to old.cells draft.cells → (draft.states ≡ old.states) × (draft.signals ≡ old.signals) × (draft.starts ≡ old.starts) × (draft.goods ≡ old.goods) → (b' : Block) × InBlock text h bs b' from draft behind
+pub edge_read : {text : List ℕ} (h : Header) (bs : Row Block) (b : Block) (n p from : ℕ) (old draft : Draft) (head : Placed) (x : Read ℕ) (to : ℕ) (behind : Placed) → Sized h n p → from < n → to < n → InBlock text h bs b from old head → (l : LettersRead text (current h bs b) p x) → Reached text (at (edges (with_edge (current h bs b) l.letters to))) behind → StepsAdded old.frame.states old.frame.signals from x.value to old.cells draft.cells → draft.frame ≡ old.frame → (b' : Block) × InBlock text h bs b' from draft behind
 edge_read h bs b n p from old draft head x to behind sized from_in to_in i l r added same =
     let cur : Current = current h bs b in (
       (with_edge cur l.letters to).block,
@@ -73,7 +73,7 @@ edge_read h bs b n p from old draft head x to behind sized from_in to_in i l r a
             (subst (λ (m : ℕ). to < m) (sym sized.0) to_in)
             (subst (λ (q : ℕ). Means q (letters_hold q l.letters) x.value) (sym sized.1) l.means)
             i.drafted
-            (subst (λ (s : ℕ). StepsAdded old.states old.signals s x.value to old.cells draft.cells) (sym i.state) added)
+            (subst (λ (s : ℕ). StepsAdded old.frame.states old.frame.signals s x.value to old.cells draft.cells) (sym i.state) added)
             same;
         stands = stands_there r;
       },

@@ -2,6 +2,7 @@
 use Rattle.std.proofs.Common.{◌≡◌, ℕ, ◌+◌, ◌*◌, ◌≤◌, ◌&&◌, ltb, List, [], ◌∷◌, ◌++◌, length, get_or, sym, ap, ◌∙◌, subst, append_assoc}
 use Rattle.omega.specs.Signals.{bit}
 use Rattle.tables.specs.declared.draft.Draft.{Draft}
+use Rattle.tables.specs.Meanings.{draft_meaning}
 use Rattle.hoa_tokens.specs.declared.fault.Fault.{Fault}
 use Rattle.hoa_tokens.specs.Numbers.{longest_text}
 use Rattle.hoa_tokens.specs.Scanning.{Found}
@@ -13,7 +14,7 @@ use Rattle.hoa_grammar.specs.Machine.{initial, reading, refused, run}
 use Rattle.hoa_grammar.specs.Reading.{Refused}
 use Rattle.hoa_grammar.proofs.Finds.{run_append, refused_stays}
 use Rattle.hoa_grammar.proofs.Outcomes.{run_writes, run_first_fault}
-use Rattle.hoa_document.specs.Denoting.{Denotes, TextWrites, TextRefused, faulty, draft_meaning}
+use Rattle.hoa_document.specs.Denoting.{Denotes, TextWrites, TextRefused, faulty}
 use Rattle.hoa_document.specs.Drafting.{Drafted, DocumentRead}
 
 -- a draft of what a document says is the automaton that it denotes

@@ -1,8 +1,6 @@
 -- Promise. What a text says: the document that it writes, the automaton and the names that this document denotes, or why it is refused.
 use Rattle.std.specs.Prelude.{◌≡◌, ℕ, ◌<◌, ◌≤◌, List, length}
 use Rattle.omega.specs.Automata.{Meaning}
-use Rattle.omega.specs.Tables.{table}
-use Rattle.tables.specs.declared.draft.Draft.{Draft}
 use Rattle.hoa_tokens.specs.declared.fault.Fault.{Fault}
 use Rattle.hoa_tokens.specs.declared.fault.Refusal.TheVariants.{TooLong}
 use Rattle.hoa_tokens.specs.Numbers.{longest_text}
@@ -32,10 +30,6 @@ pub record TextWrites (text : List ℕ) (d : Document) : Type 0 where
 -- the text writes a document, and the automaton is the one that it denotes
 abbrev pub TextDenotes : List ℕ → Meaning → Type 0
 TextDenotes text A = (d : Document) × TextWrites text d × Denotes d A
-
--- the automaton of a draft
-abbrev pub draft_meaning : Draft → Meaning
-draft_meaning x = table x.states x.signals x.starts x.goods x.cells
 
 -- the text writes a document, and these are its names
 abbrev pub TextNames : List ℕ → Names → Type 0

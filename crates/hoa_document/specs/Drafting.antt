@@ -22,10 +22,10 @@ InRow set row = (s : ℕ) → bit s set ≡ some (nat_eq s) row
 
 -- the draft holds what the header and these blocks say
 pub record Drafted (h : Header) (bs : Row Block) (draft : Draft) : Type 0 where
-  pub states : draft.states ≡ h.states
-  pub signals : draft.signals ≡ size h.names
-  pub starts : (s : ℕ) → bit s draft.starts ≡ some (nat_eq s) h.starts
-  pub goods : (s : ℕ) → bit s draft.goods ≡ some (λ b. (s == b.state) && b.good) bs
+  pub states : draft.frame.states ≡ h.states
+  pub signals : draft.frame.signals ≡ size h.names
+  pub starts : (s : ℕ) → bit s draft.frame.starts ≡ some (nat_eq s) h.starts
+  pub goods : (s : ℕ) → bit s draft.frame.goods ≡ some (λ b. (s == b.state) && b.good) bs
   pub steps : (s a t : ℕ) → ((nat_lt s h.states && nat_lt t h.states) && bit a (slice_index draft.cells (s * h.states + t))) ≡ some (λ b. (s == b.state) && block_steps (size h.names) b a t) bs
 
 -- the blocks describe just the states of the set

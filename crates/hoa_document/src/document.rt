@@ -1,7 +1,8 @@
 //! The two things that a text says.
 ghost use Rattle.std.specs.Prelude.{◌≡◌, ◌≤◌, length, MatchResult};
+ghost use Rattle.tables.specs.Meanings.{draft_meaning};
 ghost use Rattle.hoa_tokens.specs.Numbers.{longest_text};
-ghost use Rattle.hoa_document.specs.Denoting.{TextDenotes, TextNames, TextRefused, SaysOne, draft_meaning};
+ghost use Rattle.hoa_document.specs.Denoting.{TextDenotes, TextNames, TextRefused, SaysOne};
 ghost use Rattle.hoa_document.specs.Drafting.{HeaderRead};
 
 use crate::body::read_body;

@@ -1,6 +1,6 @@
 //! Reading a text into a table.
 ghost use Rattle.std.specs.Prelude.{◌≡◌, length, MatchResult, OnErr};
-ghost use Rattle.omega.specs.Tables.{table as table_of};
+ghost use Rattle.tables.specs.Meanings.{table_meaning};
 ghost use Rattle.hoa_document.specs.Denoting.{TextDenotes, SaysOne};
 ghost use Rattle.hoa_text.specs.Reading.{Unread, ToldOnce, CellsSet};
 
@@ -12,10 +12,10 @@ use tables::Table;
 ///
 /// Refused, in this order: fewer than 4,096 cells, a text that is too long, and the text's first fault.
 pub fn read(table: &mut Table<'_>, bytes: &[u8]) -> Result<(), ReadRefusal>
-    ensures read { MatchResult result (λ _. TextDenotes bytes.now (table_of table.new.states table.new.signals table.new.starts table.new.goods table.new.cells.now)) (Unread bytes.now (length table.old.cells.now)) }
+    ensures read { MatchResult result (λ _. TextDenotes bytes.now (table_meaning table.new)) (Unread bytes.now (length table.old.cells.now)) }
     ensures one { MatchResult result (λ _. SaysOne bytes.now) (ToldOnce bytes.now) }
-    ensures cells { MatchResult result (λ _. CellsSet table.new.states table.old.cells.now table.new.cells.now) (λ _. table.new.cells.now ≡ table.old.cells.now) }
-    ensures kept { OnErr result ((table.new.states ≡ table.old.states) × (table.new.signals ≡ table.old.signals) × (table.new.starts ≡ table.old.starts) × (table.new.goods ≡ table.old.goods)) }
+    ensures cells { MatchResult result (λ _. CellsSet table.new.frame.states table.old.cells.now table.new.cells.now) (λ _. table.new.cells.now ≡ table.old.cells.now) }
+    ensures kept { OnErr result (table.new.frame ≡ table.old.frame) }
     ensures lender { table.new.cells.ghost_name ≡ table.old.cells.ghost_name }
 {
     table.check_room()?;

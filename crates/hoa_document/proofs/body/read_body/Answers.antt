@@ -24,7 +24,7 @@ read_blocks-requires c =
         rows = none;
         sized = (refl, size ∙ sym counted);
         named = refl;
-        drafted = drafted_empty header x.starts c.unwrap-draft.result c.add_starts.new.self made.0 (made.1 ∙ sym size) made.2 made.3 made.4 c.add_starts.ensures.starts c.add_starts.ensures.same c.requires.started c.requires.within;
+        drafted = drafted_empty header x.starts c.unwrap-draft.result c.add_starts.new.self made.0 (made.1 ∙ sym size) made.2 made.3 made.4 c.add_starts.ensures.starts c.add_starts.ensures.same c.add_starts.ensures.cells c.requires.started c.requires.within;
         described = described_none;
         stands = stands_there c.requires.reached;
       };

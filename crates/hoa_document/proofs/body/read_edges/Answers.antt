@@ -36,7 +36,7 @@ loop-signals-preserved c h bs b sized i =
     let w = c.loop-signals.invariant h bs b sized i in
     let l = c.in_ok-letters.ensures (current h bs w.0) sized.1 w.1.stands in
     let r = target_read (current h bs w.0) c.args.states c.args.signals.count _ sized.0 l (Ok c.in_ok-to.to) c.in_ok-to.ensures.read in
-    edge_read h bs w.0 c.args.states c.args.signals.count c.args.from c.loop-signals.draft c.add_steps.new.self c.loop-signals.head _ c.in_ok-to.to.value c.in_ok-to.to.head sized c.requires.below c.in_ok-to.ensures.below w.1 l r c.add_steps.ensures.steps c.add_steps.ensures.same
+    edge_read h bs w.0 c.args.states c.args.signals.count c.args.from c.loop-signals.draft c.add_steps.new.self c.loop-signals.head _ c.in_ok-to.to.value c.in_ok-to.to.head sized c.requires.below c.in_ok-to.ensures.below w.1 l r c.add_steps.ensures.steps c.add_steps.ensures.frame
 
 pub returns : goal.returns
 returns c h bs b sized i =

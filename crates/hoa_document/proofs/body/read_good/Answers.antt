@@ -30,4 +30,4 @@ pub returns : goal.returns
 returns c h bs drafted inside r =
     let is = c.is_token.ensures.0 c.if-not-is_token.false in
     let zero = brace_opens h bs c.args.from r is (Ok c.in_ok-zero.zero) c.in_ok-zero.ensures.scanned in
-    block_good h bs c.args.from (c.in_ok-behind.ensures (edges (opened h bs c.args.from true)) zero) c.args.draft.now c.add_good.new.self inside drafted c.add_good.ensures.good c.add_good.ensures.same
+    block_good h bs c.args.from (c.in_ok-behind.ensures (edges (opened h bs c.args.from true)) zero) c.args.draft.now c.add_good.new.self inside drafted c.add_good.ensures.good c.add_good.ensures.same c.add_good.ensures.cells

@@ -1,4 +1,4 @@
--- The table's numbers and first cells are the draft's.
+-- The table's frame and first cells are the draft's.
 use Rattle.hoa_text.proofs.Filled.{table_denotes, cells_set}
 use Rattle.hoa_text.proofs.reading.read.Goals as goal
 
@@ -6,12 +6,11 @@ pub returns : goal.returns
 returns c =
     let draft = c.in_ok-draft.draft in
     let table = c.fill.new.self in
-    let same = c.in_ok-fill.ensures.table in
     let cells = c.in_ok-fill.ensures.cells in
     record {
-      read = table_denotes draft table.states table.signals table.starts table.goods table.cells.now same.0 same.1 same.2 same.3 cells.1 c.args.bytes.now c.in_ok-draft.ensures.draft;
+      read = table_denotes draft table.frame table.cells.now c.in_ok-fill.ensures.frame cells.1 c.args.bytes.now c.in_ok-draft.ensures.draft;
       one = c.in_ok-draft.ensures.one;
-      cells = cells_set draft table.states table.signals table.starts table.goods table.cells.now same.0 same.1 same.2 same.3 cells.1 c.args.table.now.cells.now cells.2;
+      cells = cells_set draft table.frame table.cells.now c.in_ok-fill.ensures.frame cells.1 c.args.table.now.cells.now cells.2;
       kept = tt;
       lender = c.in_ok-fill.ensures.lender;
     }
