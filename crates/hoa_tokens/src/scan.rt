@@ -21,11 +21,7 @@ fn run_end(text: &[u8], from: usize, class: Class) -> usize
     requires { from ≤ length text.now }
     ensures { Run (member class) text.now from result }
 {
-    let mut to = from;
-    while to < text.len() && class.holds(text[to]) {
-        to += 1;
-    }
-    to
+    from + class.count_front(&text[from..])
 }
 
 /// The place behind the colon at `at`, or `at` where none stands there.
