@@ -1,11 +1,8 @@
-use Rattle.std.proofs.Common.{◌≡◌, ◌+◌, ◌<◌, ◌≤◌, [], ◌∷◌, ◌++◌, length, Ok, Err, refl, subst, arith, length-append}
+use Rattle.std.proofs.Common.{◌≡◌, ◌+◌, ◌<◌, ◌≤◌, [], ◌∷◌, ◌++◌, length, Ok, Err, subst, arith, length-append}
 use Rattle.std.proofs.lemmas.Result.{err_from_is_err_and}
 use Rattle.hoa_tokens.specs.Scanning.{token, lexeme, found, Scanned, Ahead}
 use Rattle.hoa_tokens.proofs.Cutting.{grown_more, ahead_of, counted_end, counted_fault, unclipped}
 use Rattle.hoa_tokens.proofs.text.Text.count_from.Goals as goal
-
-pub loop-found-init : goal.loop-found-init
-loop-found-init c = (omega arith, c.requires, ([], refl, λ rest whole. whole))
 
 pub returns-in_err-found : goal.returns-in_err-found
 returns-in_err-found c =
@@ -33,9 +30,6 @@ ahead c =
     let text = c.args.self.bytes.now in
     let t = c.in_ok-found.found in
     ahead_of t.token text c.loop-found.from t.place t.next c.in_default.not-End (unclipped (λ i. Ahead text i (found (Ok t))) text c.loop-found.from c.loop-found.invariant.1 c.in_ok-found.ensures.ahead)
-
-pub loop-found-smaller : goal.loop-found-smaller
-loop-found-smaller c = omega (arith, ahead c)
 
 pub loop-found-preserved : goal.loop-found-preserved
 loop-found-preserved c =
