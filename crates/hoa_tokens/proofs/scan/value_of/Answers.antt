@@ -14,4 +14,3 @@ loop-d-preserved c =
     let step : min 10000 (value_after n (drop i ds)) ≡ min 10000 (value_after more rest) = at_drop_more (λ l. min 10000 (value_after n l)) ds i 0 (omega arith) in
     let is : c.min-n.result ≡ min more 10000 = omega arith in
     (omega arith, ap (λ m. min 10000 (value_after m rest)) is ∙ capped more rest ∙ sym step ∙ c.loop-d.invariant.1)
-
