@@ -5,3 +5,4 @@ pub mod Standing
 pub mod Once
 pub mod Cutting
 pub mod Existing
+pub mod Returning

@@ -21,11 +21,7 @@ fn run_end(text: &[u8], from: usize, class: Class) -> usize
     requires { from ≤ length text.now }
     ensures { Run (member class) text.now from result }
 {
-    let mut to = from;
-    while to < text.len() && class.holds(text[to]) {
-        to += 1;
-    }
-    to
+    from + class.count_front(&text[from..])
 }
 
 /// The place behind the colon at `at`, or `at` where none stands there.
@@ -33,7 +29,7 @@ fn past_colon(text: &[u8], at: usize) -> usize
     requires { at ≤ length text.now }
     ensures { WithColon text.now at result }
 {
-    if at < text.len() && text[at] == b':' {
+    if text.get(at) == Some(&b':') {
         return at + 1;
     }
     at
@@ -97,7 +93,7 @@ fn closes_name(text: &[u8], from: usize, end: usize) -> bool
     requires { (from ≤ end) × (end ≤ length text.now) }
     ensures { result ≡ closes text.now from end }
 {
-    end > from && end - from <= LONGEST_NAME && end < text.len() && text[end] == b'"'
+    end > from && end - from <= LONGEST_NAME && text.get(end) == Some(&b'"')
 }
 
 /// The name whose quote stands at `place`, or the fault of a quote that opens none.

@@ -1,7 +1,7 @@
 -- What each way out of `factor`, `term` and `label` returns is a part that is read or a fault with which the text is refused.
 -- First the arms of `factor`, then the first part and a turn of the loop of `term`, and the same of `label`.
 use Rattle.std.proofs.Common.{ap, rules}
-use Rattle.std.proofs.lemmas.Result.{err_from_is_err_and}
+use Rattle.hoa_tokens.proofs.Returning.{passes_error}
 use Rattle.hoa_tokens.specs.Scanning.{lexeme}
 use Rattle.hoa_labels.proofs.Factors.{word_read, word_fails, signal_read, signal_fails, mark_fails, name_or_end_fails, opens_factor, opens_label, too_deep, scan_fails, part_fails, negation_read, group_closed}
 use Rattle.hoa_labels.proofs.Turns.{term_first, term_fails_first, term_scan_fails, term_part_fails, term_more, label_first, label_fails_first, label_scan_fails, label_part_fails, label_more}
@@ -9,8 +9,7 @@ use Rattle.hoa_labels.proofs.label.+factor_label_term.Goals as goal
 
 pub factor-returns-in_err-letters-in-Word : goal.factor-returns-in_err-letters-in-Word
 factor-returns-in_err-letters-in-Word t c =
-    let p = err_from_is_err_and c.from_residual.result c.from_residual.ensures.1 in
-    rw (p.1, p.2) (word_fails (ap lexeme c.in-Word.is) c.in_err-letters-in-Word.field-0.0 c.in_err-letters-in-Word.ensures)
+    rw (passes_error _ c.from_residual.ensures.1) (word_fails (ap lexeme c.in-Word.is) c.in_err-letters-in-Word.field-0.0 c.in_err-letters-in-Word.ensures)
 
 pub factor-returns-in_ok-letters-in-Word : goal.factor-returns-in_ok-letters-in-Word
 factor-returns-in_ok-letters-in-Word t c =
@@ -18,9 +17,8 @@ factor-returns-in_ok-letters-in-Word t c =
 
 pub factor-returns-in_err-letters-in-Number : goal.factor-returns-in_err-letters-in-Number
 factor-returns-in_err-letters-in-Number t c =
-    let p = err_from_is_err_and c.from_residual-in_err-letters-in-Number.result c.from_residual-in_err-letters-in-Number.ensures.1 in
     let high = c.in_err-letters-in-Number.ensures in
-    rw (p.1, p.2, high.1) (signal_fails (ap lexeme c.in-Number.is) high.0)
+    rw (passes_error _ c.from_residual-in_err-letters-in-Number.ensures.1, high.1) (signal_fails (ap lexeme c.in-Number.is) high.0)
 
 pub factor-returns-in_ok-letters-in-Number : goal.factor-returns-in_ok-letters-in-Number
 factor-returns-in_ok-letters-in-Number t c =
@@ -29,19 +27,16 @@ factor-returns-in_ok-letters-in-Number t c =
 
 pub factor-returns-in_err-inside-in-Not : goal.factor-returns-in_err-inside-in-Not
 factor-returns-in_err-inside-in-Not t c =
-    let p = err_from_is_err_and c.from_residual-in_err-inside-in-Not.result c.from_residual-in_err-inside-in-Not.ensures.1 in
     let full = c.in_err-inside-in-Not.ensures in
-    rw (p.1, p.2, full.1) (too_deep (opens_factor c.in-Mark.is c.in-Not.is) full.0)
+    rw (passes_error _ c.from_residual-in_err-inside-in-Not.ensures.1, full.1) (too_deep (opens_factor c.in-Mark.is c.in-Not.is) full.0)
 
 pub factor-returns-in_err-behind-in-Not : goal.factor-returns-in_err-behind-in-Not
 factor-returns-in_err-behind-in-Not t c =
-    let p = err_from_is_err_and c.from_residual-in_err-behind-in-Not.result c.from_residual-in_err-behind-in-Not.ensures.1 in
-    rw (p.1, p.2) (scan_fails (opens_factor c.in-Mark.is c.in-Not.is) c.in_ok-inside-in-Not.inside c.in_ok-inside-in-Not.ensures c.in_err-behind-in-Not.ensures.scanned)
+    rw (passes_error _ c.from_residual-in_err-behind-in-Not.ensures.1) (scan_fails (opens_factor c.in-Mark.is c.in-Not.is) c.in_ok-inside-in-Not.inside c.in_ok-inside-in-Not.ensures c.in_err-behind-in-Not.ensures.scanned)
 
 pub factor-returns-in_err-part-in-Not : goal.factor-returns-in_err-part-in-Not
 factor-returns-in_err-part-in-Not t c =
-    let p = err_from_is_err_and c.from_residual-in_err-part-in-Not.result c.from_residual-in_err-part-in-Not.ensures.1 in
-    rw (p.1, p.2) (part_fails (opens_factor c.in-Mark.is c.in-Not.is) c.in_ok-inside-in-Not.inside c.in_ok-inside-in-Not.ensures c.in_ok-behind-in-Not.ensures.scanned c.in_err-part-in-Not.ensures)
+    rw (passes_error _ c.from_residual-in_err-part-in-Not.ensures.1) (part_fails (opens_factor c.in-Mark.is c.in-Not.is) c.in_ok-inside-in-Not.inside c.in_ok-inside-in-Not.ensures c.in_ok-behind-in-Not.ensures.scanned c.in_err-part-in-Not.ensures)
 
 pub factor-returns-in_ok-part-in-Not : goal.factor-returns-in_ok-part-in-Not
 factor-returns-in_ok-part-in-Not t c =
@@ -50,19 +45,16 @@ factor-returns-in_ok-part-in-Not t c =
 
 pub factor-returns-in_err-inside-in-OpenParen : goal.factor-returns-in_err-inside-in-OpenParen
 factor-returns-in_err-inside-in-OpenParen t c =
-    let p = err_from_is_err_and c.from_residual-in_err-inside-in-OpenParen.result c.from_residual-in_err-inside-in-OpenParen.ensures.1 in
     let full = c.in_err-inside-in-OpenParen.ensures in
-    rw (p.1, p.2, full.1) (too_deep (opens_label c.in-Mark.is c.in-OpenParen.is) full.0)
+    rw (passes_error _ c.from_residual-in_err-inside-in-OpenParen.ensures.1, full.1) (too_deep (opens_label c.in-Mark.is c.in-OpenParen.is) full.0)
 
 pub factor-returns-in_err-behind-in-OpenParen : goal.factor-returns-in_err-behind-in-OpenParen
 factor-returns-in_err-behind-in-OpenParen t c =
-    let p = err_from_is_err_and c.from_residual-in_err-behind-in-OpenParen.result c.from_residual-in_err-behind-in-OpenParen.ensures.1 in
-    rw (p.1, p.2) (scan_fails (opens_label c.in-Mark.is c.in-OpenParen.is) c.in_ok-inside-in-OpenParen.inside c.in_ok-inside-in-OpenParen.ensures c.in_err-behind-in-OpenParen.ensures.scanned)
+    rw (passes_error _ c.from_residual-in_err-behind-in-OpenParen.ensures.1) (scan_fails (opens_label c.in-Mark.is c.in-OpenParen.is) c.in_ok-inside-in-OpenParen.inside c.in_ok-inside-in-OpenParen.ensures c.in_err-behind-in-OpenParen.ensures.scanned)
 
 pub factor-returns-in_err-group-in-OpenParen : goal.factor-returns-in_err-group-in-OpenParen
 factor-returns-in_err-group-in-OpenParen t c =
-    let p = err_from_is_err_and c.from_residual-in_err-group-in-OpenParen.result c.from_residual-in_err-group-in-OpenParen.ensures.1 in
-    rw (p.1, p.2) (part_fails (opens_label c.in-Mark.is c.in-OpenParen.is) c.in_ok-inside-in-OpenParen.inside c.in_ok-inside-in-OpenParen.ensures c.in_ok-behind-in-OpenParen.ensures.scanned c.in_err-group-in-OpenParen.ensures)
+    rw (passes_error _ c.from_residual-in_err-group-in-OpenParen.ensures.1) (part_fails (opens_label c.in-Mark.is c.in-OpenParen.is) c.in_ok-inside-in-OpenParen.inside c.in_ok-inside-in-OpenParen.ensures c.in_ok-behind-in-OpenParen.ensures.scanned c.in_err-group-in-OpenParen.ensures)
 
 pub factor-returns-in_ok-group-in-OpenParen : goal.factor-returns-in_ok-group-in-OpenParen
 factor-returns-in_ok-group-in-OpenParen t c =
@@ -76,42 +68,36 @@ factor-returns-in-Name t c = rw c.at-in-Name.ensures (name_or_end_fails c.in-Nam
 
 pub term-returns-in_err-letters : goal.term-returns-in_err-letters
 term-returns-in_err-letters t c =
-    let p = err_from_is_err_and c.from_residual.result c.from_residual.ensures.1 in
-    rw (p.1, p.2) (term_fails_first c.in_err-letters.ensures)
+    rw (passes_error _ c.from_residual.ensures.1) (term_fails_first c.in_err-letters.ensures)
 
 pub term-loop-signals-init : goal.term-loop-signals-init
 term-loop-signals-init t c = term_first c.in_ok-letters.ensures
 
 pub term-returns-in_err-behind : goal.term-returns-in_err-behind
 term-returns-in_err-behind t c =
-    let p = err_from_is_err_and c.from_residual-in_err-behind.result c.from_residual-in_err-behind.ensures.1 in
-    rw (p.1, p.2) (term_scan_fails c.loop-signals.invariant (search rules) c.in_err-behind.field-0.0 c.in_err-behind.ensures.scanned)
+    rw (passes_error _ c.from_residual-in_err-behind.ensures.1) (term_scan_fails c.loop-signals.invariant (search rules) c.in_err-behind.field-0.0 c.in_err-behind.ensures.scanned)
 
 pub term-returns-in_err-more : goal.term-returns-in_err-more
 term-returns-in_err-more t c =
-    let p = err_from_is_err_and c.from_residual-in_err-more.result c.from_residual-in_err-more.ensures.1 in
-    rw (p.1, p.2) (term_part_fails c.loop-signals.invariant (search rules) c.in_ok-behind.ensures.scanned c.in_err-more.field-0.0 c.in_err-more.ensures)
+    rw (passes_error _ c.from_residual-in_err-more.ensures.1) (term_part_fails c.loop-signals.invariant (search rules) c.in_ok-behind.ensures.scanned c.in_err-more.field-0.0 c.in_err-more.ensures)
 
 pub term-loop-signals-preserved : goal.term-loop-signals-preserved
 term-loop-signals-preserved t c = rw c.both-letters.ensures (term_more c.loop-signals.invariant (search rules) c.in_ok-behind.ensures.scanned c.in_ok-more.more c.in_ok-more.ensures)
 
 pub label-returns-in_err-letters : goal.label-returns-in_err-letters
 label-returns-in_err-letters t c =
-    let p = err_from_is_err_and c.from_residual.result c.from_residual.ensures.1 in
-    rw (p.1, p.2) (label_fails_first c.in_err-letters.ensures)
+    rw (passes_error _ c.from_residual.ensures.1) (label_fails_first c.in_err-letters.ensures)
 
 pub label-loop-signals-init : goal.label-loop-signals-init
 label-loop-signals-init t c = label_first c.in_ok-letters.ensures
 
 pub label-returns-in_err-behind : goal.label-returns-in_err-behind
 label-returns-in_err-behind t c =
-    let p = err_from_is_err_and c.from_residual-in_err-behind.result c.from_residual-in_err-behind.ensures.1 in
-    rw (p.1, p.2) (label_scan_fails c.loop-signals.invariant (search rules) c.in_err-behind.field-0.0 c.in_err-behind.ensures.scanned)
+    rw (passes_error _ c.from_residual-in_err-behind.ensures.1) (label_scan_fails c.loop-signals.invariant (search rules) c.in_err-behind.field-0.0 c.in_err-behind.ensures.scanned)
 
 pub label-returns-in_err-more : goal.label-returns-in_err-more
 label-returns-in_err-more t c =
-    let p = err_from_is_err_and c.from_residual-in_err-more.result c.from_residual-in_err-more.ensures.1 in
-    rw (p.1, p.2) (label_part_fails c.loop-signals.invariant (search rules) c.in_ok-behind.ensures.scanned c.in_err-more.field-0.0 c.in_err-more.ensures)
+    rw (passes_error _ c.from_residual-in_err-more.ensures.1) (label_part_fails c.loop-signals.invariant (search rules) c.in_ok-behind.ensures.scanned c.in_err-more.field-0.0 c.in_err-more.ensures)
 
 pub label-loop-signals-preserved : goal.label-loop-signals-preserved
 label-loop-signals-preserved t c = rw c.either-letters.ensures (label_more c.loop-signals.invariant (search rules) c.in_ok-behind.ensures.scanned c.in_ok-more.more c.in_ok-more.ensures)

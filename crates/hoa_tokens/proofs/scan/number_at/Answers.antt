@@ -1,11 +1,8 @@
 use Rattle.std.proofs.Common.{sym}
 use Rattle.hoa_tokens.specs.Items.{span}
-use Rattle.hoa_tokens.proofs.Standing.{span_digits, number_stands, number_refused}
+use Rattle.hoa_tokens.proofs.Standing.{number_stands, number_refused}
 use Rattle.hoa_tokens.proofs.Values.{plain_value}
 use Rattle.hoa_tokens.proofs.scan.number_at.Goals as goal
-
-pub value_of-n-requires : goal.value_of-n-requires
-value_of-n-requires c = span_digits c.args.text.now c.args.place c.run_end-next.result c.run_end-next.ensures.each
 
 pub returns-then-not-is_plain : goal.returns-then-not-is_plain
 returns-then-not-is_plain c =

@@ -1,5 +1,5 @@
 use Rattle.std.proofs.Common.{◌≡◌, ℕ, ◌+◌, ◌-◌, ◌*◌, min, get_or, drop, sym, ap, ◌∙◌, arith}
-use Rattle.std.proofs.lemmas.List.{at_drop_more, at_drop_all}
+use Rattle.std.proofs.lemmas.List.{at_drop_more}
 use Rattle.hoa_tokens.specs.Bytes.{value_after}
 use Rattle.hoa_tokens.proofs.Values.{capped}
 use Rattle.hoa_tokens.proofs.scan.value_of.Goals as goal
@@ -14,9 +14,3 @@ loop-d-preserved c =
     let step : min 10000 (value_after n (drop i ds)) ≡ min 10000 (value_after more rest) = at_drop_more (λ l. min 10000 (value_after n l)) ds i 0 (omega arith) in
     let is : c.min-n.result ≡ min more 10000 = omega arith in
     (omega arith, ap (λ m. min 10000 (value_after m rest)) is ∙ capped more rest ∙ sym step ∙ c.loop-d.invariant.1)
-
-pub returns : goal.returns
-returns c =
-    let ds = c.args.digits.now in
-    let done : value_after c.loop-d.n (drop c.loop-d.d-index ds) ≡ c.loop-d.n = at_drop_all (value_after c.loop-d.n) ds c.loop-d.d-index (omega arith) in
-    omega arith

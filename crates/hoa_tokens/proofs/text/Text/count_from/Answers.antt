@@ -1,19 +1,15 @@
-use Rattle.std.proofs.Common.{◌≡◌, ◌+◌, ◌<◌, ◌≤◌, [], ◌∷◌, ◌++◌, length, Ok, Err, refl, subst, arith, length-append}
-use Rattle.std.proofs.lemmas.Result.{err_from_is_err_and}
+use Rattle.std.proofs.Common.{◌≡◌, ◌+◌, ◌<◌, ◌≤◌, [], ◌∷◌, ◌++◌, length, Ok, Err, subst, arith, length-append}
 use Rattle.hoa_tokens.specs.Scanning.{token, lexeme, found, Scanned, Ahead}
+use Rattle.hoa_tokens.proofs.Returning.{passes_error}
 use Rattle.hoa_tokens.proofs.Cutting.{grown_more, ahead_of, counted_end, counted_fault, unclipped}
 use Rattle.hoa_tokens.proofs.text.Text.count_from.Goals as goal
-
-pub loop-found-init : goal.loop-found-init
-loop-found-init c = (omega arith, c.requires, ([], refl, λ rest whole. whole))
 
 pub returns-in_err-found : goal.returns-in_err-found
 returns-in_err-found c =
     let text = c.args.self.bytes.now in
     let from = c.loop-found.from in
     let f = c.in_err-found.field-0.0 in
-    let p = err_from_is_err_and c.from_residual.result c.from_residual.ensures.1 in
-    rw (p.1, p.2) (counted_fault text c.args.start from f c.loop-found.invariant.2.0 c.loop-found.invariant.2.2 (unclipped (λ i. Scanned text i (found (Err f))) text from c.loop-found.invariant.1 c.in_err-found.ensures.scanned))
+    rw (passes_error _ c.from_residual.ensures.1) (counted_fault text c.args.start from f c.loop-found.invariant.2.0 c.loop-found.invariant.2.2 (unclipped (λ i. Scanned text i (found (Err f))) text from c.loop-found.invariant.1 c.in_err-found.ensures.scanned))
 
 pub returns-in-End : goal.returns-in-End
 returns-in-End c =
@@ -33,9 +29,6 @@ ahead c =
     let text = c.args.self.bytes.now in
     let t = c.in_ok-found.found in
     ahead_of t.token text c.loop-found.from t.place t.next c.in_default.not-End (unclipped (λ i. Ahead text i (found (Ok t))) text c.loop-found.from c.loop-found.invariant.1 c.in_ok-found.ensures.ahead)
-
-pub loop-found-smaller : goal.loop-found-smaller
-loop-found-smaller c = omega (arith, ahead c)
 
 pub loop-found-preserved : goal.loop-found-preserved
 loop-found-preserved c =
