@@ -1,12 +1,13 @@
 -- How blocks are read: the state that a block describes, whether it is good, one block behind the other, and the text's end.
-use Rattle.std.proofs.Common.{◌≡◌, ℕ, ◌*◌, ◌/◌, ◌%◌, ◌^◌, ◌<◌, ◌≤◌, Bool, true, false, cond, eqb, ◌⊎◌, List, [], ◌∷◌, ◌++◌, Ok, Err, codes, Result, sym, refl, ap, ◌∙◌, inl, inr, arith, MatchResult}
+use Rattle.std.proofs.Common.{◌≡◌, ℕ, ◌*◌, ◌/◌, ◌%◌, ◌^◌, ◌<◌, ◌≤◌, Bool, true, false, cond, eqb, ◌⊎◌, ◌≢◌, List, [], ◌∷◌, ◌++◌, Ok, Err, codes, Result, sym, refl, ap, ◌∙◌, inl, inr, arith, MatchResult}
 use lib.Bits.{bit_or}
-use Rattle.std.proofs.lemmas.Bool.{le-leb, lt-leb, eq-eqb}
+use Rattle.std.proofs.lemmas.Bool.{le-leb, lt-leb, eq-eqb, ne_eqb}
 use Rattle.omega.specs.Signals.{bit}
 use Rattle.tables.specs.declared.draft.Draft.{Draft}
 use Rattle.tables.specs.Frames.{SameButGoods}
 use Rattle.tables.specs.Cells.{StateAdded}
 use Rattle.hoa_tokens.specs.declared.fault.Fault.{Fault}
+use Rattle.hoa_tokens.specs.declared.fault.Refusal.{Refusal}
 use Rattle.hoa_tokens.specs.declared.fault.Refusal.TheVariants.{Unexpected, OutOfRange, Repeated}
 use Rattle.hoa_tokens.specs.declared.token.Mark.TheVariants.{OpenBrace, CloseBrace}
 use Rattle.hoa_tokens.specs.declared.token.Placed.{Placed}
@@ -22,9 +23,9 @@ use Rattle.hoa_grammar.specs.Machine.{state, good, edges, blocks, ended, opened,
 use Rattle.hoa_grammar.specs.Reading.{Reached, Refused}
 use Rattle.hoa_grammar.proofs.Stepping.{run_last, reached_stuck}
 use Rattle.hoa_tokens.specs.declared.token.Read.{Read}
-use Rattle.hoa_document.specs.Standing.{Stands, NumberRead}
+use Rattle.hoa_document.specs.Standing.{Stands, limit_of, NumberRead}
 use Rattle.hoa_document.specs.Drafting.{Drafted, Described, Sized, InBlock, BlockRead, BlocksRead, DocumentRead}
-use Rattle.hoa_document.proofs.Leading.{stands_there, stands_on, number_over, word_not_end, number_not_end, mark_not_end}
+use Rattle.hoa_document.proofs.Leading.{stands_there, stands_on, word_not_end, number_not_end, mark_not_end}
 use Rattle.hoa_document.proofs.Drafts.{drafted_plain, drafted_good, described_more}
 use Rattle.hoa_document.proofs.Slots.{second_word}
 use Rattle.hoa_document.proofs.Edges.{other_token, number_leads}
@@ -45,10 +46,11 @@ module _ (n : ℕ) (bs : Row Block) (set s : ℕ) (described : Described bs set)
   pub fresh : s < n → bit s set ≡ false → block_limit n bs s ≡ kept
   fresh inside = within_range inside false
 
--- a state that a block cannot describe is refused
-pub not_described : (text : List ℕ) (head : Placed) (n : ℕ) (bs : Row Block) (set s : ℕ) → Described bs set → lexeme head.token ≡ number s → (f : Fault) → ((n ≤ s) × (f ≡ fault_at OutOfRange head.place)) ⊎ ((s < n) × (set / 2 ^ s % 2 ≡ 1) × (f ≡ fault_at Repeated head.place)) → NumberRead text head (block_limit n bs) (Err f)
-not_described text head n bs set s described here f (inl (past, is)) = number_over text head (block_limit n bs) s here OutOfRange (out_of_range n bs set s described past) f is
-not_described text head n bs set s described here f (inr (inside, again, is)) = number_over text head (block_limit n bs) s here Repeated (repeated n bs set s described inside (eq-eqb _ 1 again)) f is
+  -- its limit is what its test says
+  pub described_limit : (r : Result (Unit {0}) Refusal) → MatchResult r (λ _. (s < n) × (set / 2 ^ s % 2 ≢ 1)) (λ e. ((n ≤ s) × (e ≡ OutOfRange)) ⊎ ((s < n) × (set / 2 ^ s % 2 ≡ 1) × (e ≡ Repeated))) → block_limit n bs s ≡ limit_of r
+  described_limit (Ok x) (inside, new) = fresh inside (ne_eqb _ 1 new)
+  described_limit (Err e) (inl (past, is)) = out_of_range past ∙ ap broken (sym is)
+  described_limit (Err e) (inr (inside, again, is)) = repeated inside (eq-eqb _ 1 again) ∙ ap broken (sym is)
 
 pub state_read : {text : List ℕ} (h : Header) (bs : Row Block) (n : ℕ) (head : Placed) → h.states ≡ n → Reached text (at (state h bs)) head → (q : Result (Read ℕ) Fault) → NumberRead text head (block_limit n bs) q → MatchResult q (λ x. Reached text (at (good h bs x.value)) x.head) (Refused text)
 state_read {text = text} h bs n head states r q read =

@@ -1,5 +1,6 @@
 -- How reading goes on where the machine stands as in some state: the token in hand leads on, is not allowed, or breaks a limit.
-use Rattle.std.proofs.Common.{◌≡◌, ℕ, Bool, true, false, List, Ok, Err, Result, sym, refl, ap, ◌∙◌, subst, arith, MatchResult}
+use Rattle.std.proofs.Common.{◌≡◌, ℕ, Bool, true, false, List, Ok, Err, Result, is_ok, sym, refl, ap, ◌∙◌, subst, arith, MatchResult}
+use Rattle.std.proofs.lemmas.Bool.{true≢false}
 use Rattle.hoa_tokens.specs.declared.fault.Fault.{Fault}
 use Rattle.hoa_tokens.specs.declared.fault.Refusal.{Refusal}
 use Rattle.hoa_tokens.specs.declared.fault.Refusal.TheVariants.{Unexpected}
@@ -11,7 +12,7 @@ use Rattle.hoa_grammar.specs.Marking.{Limit, kept, broken, breaks_if}
 use Rattle.hoa_grammar.specs.Machine.{State, Step, stuck, goes, step, number_only}
 use Rattle.hoa_grammar.specs.Reading.{Reached, Refused}
 use Rattle.hoa_grammar.proofs.Stepping.{reached_on, reached_stuck, reached_broken}
-use Rattle.hoa_document.specs.Standing.{Stands, NumberRead}
+use Rattle.hoa_document.specs.Standing.{Stands, limit_of, NumberRead}
 
 -- a limit with one test is broken where the test is true, and kept where it is false
 pub breaks_where : (test : Bool) (r : Refusal) → test ≡ true → breaks_if test r kept ≡ broken r
@@ -19,6 +20,14 @@ breaks_where test r e = ap (λ b. breaks_if b r kept) e
 
 pub keeps_where : (test : Bool) (r : Refusal) → test ≡ false → breaks_if test r kept ≡ kept
 keeps_where test r e = ap (λ b. breaks_if b r kept) e
+
+-- a number that passes its test keeps the limit, and one that does not breaks it
+pub limit_kept : (l : Limit) (r : Result (Unit {0}) Refusal) → l ≡ limit_of r → true ≡ is_ok r → l ≡ kept
+limit_kept l (Ok x) says e = says
+limit_kept l (Err f) says e = absurd (true≢false e)
+
+pub limit_broken : (l : Limit) (r : Result (Unit {0}) Refusal) (e : Refusal) → l ≡ limit_of r → r ≡ Err e → l ≡ broken e
+limit_broken l r e says is = says ∙ ap limit_of is
 
 -- a state stands for itself
 pub stands_there : {text : List ℕ} {s : State} {head : Placed} → Reached text s head → Stands text s head

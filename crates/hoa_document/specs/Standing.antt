@@ -1,10 +1,11 @@
 -- Scaffolding, no promise: what reading one token comes to.
-use Rattle.std.specs.Prelude.{◌≡◌, ℕ, Bool, List, Result, MatchResult}
+use Rattle.std.specs.Prelude.{◌≡◌, ℕ, Bool, List, Ok, Err, Result, MatchResult}
 use Rattle.hoa_tokens.specs.declared.fault.Fault.{Fault}
+use Rattle.hoa_tokens.specs.declared.fault.Refusal.{Refusal}
 use Rattle.hoa_tokens.specs.declared.token.Placed.{Placed}
 use Rattle.hoa_tokens.specs.declared.token.Read.{Read}
 use Rattle.hoa_tokens.specs.Scanning.{Lexeme, lexeme}
-use Rattle.hoa_grammar.specs.Marking.{Limit, kept}
+use Rattle.hoa_grammar.specs.Marking.{Limit, kept, broken}
 use Rattle.hoa_grammar.specs.Machine.{State, goes, step, number_only, is_token}
 use Rattle.hoa_grammar.specs.Reading.{Reached, Refused}
 
@@ -17,6 +18,15 @@ pub record Stands (text : List ℕ) (s : State) (head : Placed) : Type 0 where
 -- a token that may be due: no name, and not the text's end
 abbrev pub is_fixed : Lexeme → Bool
 is_fixed x = is_token x x
+
+-- the limit that a test of a number keeps or breaks
+abbrev pub limit_of : Result (Unit {0}) Refusal → Limit
+limit_of (Ok x) = kept
+limit_of (Err r) = broken r
+
+-- what a test says of a number is its limit
+abbrev pub Tests : (ℕ → Result (Unit {0}) Refusal → Type 0) → (ℕ → Limit) → Type 0
+Tests says limit = (n : ℕ) (r : Result (Unit {0}) Refusal) → says n r → limit n ≡ limit_of r
 
 -- a number is read wherever one is due that keeps this limit and leads on by `go`
 abbrev pub NumberRead : List ℕ → Placed → (ℕ → Limit) → Result (Read ℕ) Fault → Type 0

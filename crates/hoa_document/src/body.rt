@@ -7,12 +7,11 @@ ghost use Rattle.hoa_grammar.specs.Documents.{Header, Block, Document, most_stat
 ghost use Rattle.hoa_grammar.specs.Machine.{Current, at, state as state_slot, good as good_slot, blocks as blocks_slot, edges as edges_slot};
 ghost use Rattle.hoa_grammar.specs.Reading.{Reached, Refused};
 ghost use Rattle.hoa_grammar.specs.Rows.{Row, size};
-ghost use Rattle.hoa_tokens.specs.Faults.{fault_at};
 ghost use Rattle.hoa_document.specs.Drafting.{Described, Drafted, BeginsEdge, Sized, LettersRead, InBlock, SomeBlock, BlockRead, BlocksRead, HeaderRead, DocumentRead};
 ghost use Rattle.hoa_document.specs.Naming.{row_of};
 ghost use Rattle.hoa_document.specs.Standing.{Stands};
 
-use crate::expect::{expect, expect_all, is_token, number, state};
+use crate::expect::{expect, expect_all, is_token, read_number, state};
 use crate::header::Heading;
 use hoa_labels::{Signals, read_label};
 use hoa_tokens::{Fault, Mark, Placed, Read, Refusal, Text, Token};
@@ -96,16 +95,16 @@ fn read_good<'a>(
     Ok(behind)
 }
 
-/// The fault of a state that a block cannot describe: there is no such state, or a block before it does.
-fn check_described(value: u32, states: u32, described: u64, place: usize) -> Result<(), Fault>
+/// Why a block cannot describe a state: there is no such state, or a block before it does.
+fn check_described(value: u32, states: u32, described: u64) -> Result<(), Refusal>
     requires { states ≤ most_states }
-    ensures { MatchResult result (λ _. (value < states) × (described / 2 ^ value % 2 ≢ 1)) (λ f. ((states ≤ value) × (f ≡ fault_at OutOfRange place)) ⊎ ((value < states) × (described / 2 ^ value % 2 ≡ 1) × (f ≡ fault_at Repeated place))) }
+    ensures { MatchResult result (λ _. (value < states) × (described / 2 ^ value % 2 ≢ 1)) (λ e. ((states ≤ value) × (e ≡ OutOfRange)) ⊎ ((value < states) × (described / 2 ^ value % 2 ≡ 1) × (e ≡ Repeated))) }
 {
     if value >= states {
-        return Err(Refusal::OutOfRange.at(place));
+        return Err(Refusal::OutOfRange);
     }
     if (described >> value) % 2 == 1 {
-        return Err(Refusal::Repeated.at(place));
+        return Err(Refusal::Repeated);
     }
     Ok(())
 }
@@ -129,10 +128,11 @@ fn read_described<'a>(
     ensures read { (h : Header) (bs : Row Block) → h.states ≡ states → Described bs described → Reached text.entry.bytes.now (at (state_slot h bs)) head.entry → MatchResult result (λ x. Reached text.entry.bytes.now (at (good_slot h bs x.value)) x.head) (Refused text.entry.bytes.now) }
     ensures fresh { IfOk result (λ x. (x.value < states) × (bit x.value described ≡ false)) }
 {
-    let value = number(&head)?;
-    check_described(value, states, described, head.place)?;
-    let head = text.scan(head.next)?;
-    Ok(Read { value, head })
+    read_number(
+        text,
+        head,
+        |value| check_described(value, states, described),
+    )
 }
 
 /// All blocks behind a header.

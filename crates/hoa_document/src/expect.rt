@@ -7,10 +7,10 @@ ghost use Rattle.hoa_tokens.specs.declared.fault.Refusal.TheVariants.{Unexpected
 ghost use Rattle.hoa_tokens.specs.Faults.{fault_at};
 ghost use Rattle.hoa_tokens.specs.Scanning.{Lexeme, number as number_of, lexeme, found, Ahead, clipped};
 ghost use Rattle.hoa_grammar.specs.Documents.{state_limit};
-ghost use Rattle.hoa_grammar.specs.Marking.{breaks_if, kept};
+ghost use Rattle.hoa_grammar.specs.Marking.{Limit, breaks_if, kept};
 ghost use Rattle.hoa_grammar.specs.Machine.{Slot, due, at};
 ghost use Rattle.hoa_grammar.specs.Reading.{Reached, Refused};
-ghost use Rattle.hoa_document.specs.Standing.{Stands, is_fixed, NumberRead};
+ghost use Rattle.hoa_document.specs.Standing.{Stands, is_fixed, Tests, NumberRead};
 
 use hoa_tokens::{Fault, Placed, Read, Refusal, Text, Token};
 
@@ -54,13 +54,31 @@ pub(crate) fn expect_all<'a>(
 }
 
 /// The number that has to be in hand.
-pub(crate) fn number(head: &Placed<'_>) -> Result<u32, Fault>
+fn number(head: &Placed<'_>) -> Result<u32, Fault>
     ensures { MatchResult result (λ n. lexeme head.now.token ≡ number_of n) (λ f. ((n : ℕ) → lexeme head.now.token ≢ number_of n) × (f ≡ fault_at Unexpected head.now.place)) }
 {
     match head.token {
         Token::Number(n) => Ok(n),
         _ => Err(Refusal::Unexpected.at(head.place)),
     }
+}
+
+/// The number that has to be in hand and to pass the test, and the token behind it.
+pub(crate) fn read_number<'a, F: FnOnce(u32) -> Result<(), Refusal> + Drop>(
+    text: Text<'a>,
+    head: Placed<'a>,
+    test: F,
+) -> Result<Read<'a, u32>, Fault>
+    requires { F.IsAlwaysCallable test }
+    ensures read { (limit : ℕ → Limit) → Tests (F.post test) limit → NumberRead text.entry.bytes.now head.entry limit result }
+    ensures passed { IfOk result (λ x. F.post test x.value (Ok tt)) }
+    ensures here { IfOk result (λ x. lexeme head.entry.token ≡ number_of x.value) }
+    ensures ahead { IfOk result (λ x. Ahead text.entry.bytes.now (clipped text.entry.bytes.now head.entry.next) (found (Ok x.head))) }
+{
+    let value = number(&head)?;
+    test(value).map_err(|refusal| refusal.at(head.place))?;
+    let head = text.scan(head.next)?;
+    Ok(Read { value, head })
 }
 
 /// The state that has to be in hand, below `states`, and the token behind it.
@@ -74,12 +92,13 @@ pub(crate) fn state<'a>(
     ensures here { IfOk result (λ x. lexeme head.entry.token ≡ number_of x.value) }
     ensures ahead { IfOk result (λ x. Ahead text.entry.bytes.now (clipped text.entry.bytes.now head.entry.next) (found (Ok x.head))) }
 {
-    let value = number(&head)?;
-    if value >= states {
-        return Err(Refusal::OutOfRange.at(head.place));
-    }
-    let head = text.scan(head.next)?;
-    Ok(Read { value, head })
+    read_number(text, head, |n| {
+        if n < states {
+            Ok(())
+        } else {
+            Err(Refusal::OutOfRange)
+        }
+    })
 }
 
 /// The count that has to be in hand, at most `most`, and the token behind it.
@@ -87,10 +106,11 @@ pub(crate) fn count<'a>(text: Text<'a>, head: Placed<'a>, most: u32) -> Result<R
     ensures read { NumberRead text.entry.bytes.now head.entry (λ n. breaks_if (nat_lt most n) TooMany kept) result }
     ensures below { IfOk result (λ x. x.value ≤ most) }
 {
-    let value = number(&head)?;
-    if value > most {
-        return Err(Refusal::TooMany.at(head.place));
-    }
-    let head = text.scan(head.next)?;
-    Ok(Read { value, head })
+    read_number(text, head, |n| {
+        if n <= most {
+            Ok(())
+        } else {
+            Err(Refusal::TooMany)
+        }
+    })
 }

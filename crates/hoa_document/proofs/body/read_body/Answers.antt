@@ -1,7 +1,7 @@
 -- The blocks are read into a draft that holds the header, and the text ends behind them.
 use Rattle.std.proofs.Common.{sym, refl, ◌∙◌}
-use Rattle.std.proofs.lemmas.Result.{err_from_is_err_and}
 use Rattle.std.proofs.lemmas.Option.{MatchOption-at_some}
+use Rattle.hoa_tokens.proofs.Returning.{passes_error}
 use Rattle.hoa_grammar.specs.Rows.{none}
 use Rattle.hoa_grammar.specs.Machine.{header_of}
 use Rattle.hoa_document.specs.Naming.{row_of}
@@ -32,9 +32,8 @@ read_blocks-requires c =
 
 pub returns-in_err-read_end : goal.returns-in_err-read_end
 returns-in_err-read_end c =
-    let p = err_from_is_err_and c.from_residual-in_err-read_end.result c.from_residual-in_err-read_end.ensures.1 in
     let b = c.in_ok-head.ensures.1.1 in
-    rw (p.1, p.2) (c.in_err-read_end.ensures b.header b.rows b.stands)
+    rw (passes_error _ c.from_residual-in_err-read_end.ensures.1) (c.in_err-read_end.ensures b.header b.rows b.stands)
 
 pub returns : goal.returns
 returns c =

@@ -1,6 +1,6 @@
 -- Each turn reads one edge more of the block in hand, or refuses the text; no edge begins where the loop ends.
 use Rattle.std.proofs.Common.{Ok, Err}
-use Rattle.std.proofs.lemmas.Result.{err_from_is_err_and}
+use Rattle.hoa_tokens.proofs.Returning.{passes_error}
 use Rattle.hoa_document.specs.Drafting.{current}
 use Rattle.hoa_document.proofs.Advance.{edge_advances}
 use Rattle.hoa_document.proofs.Edges.{target_read, edge_read, block_ends}
@@ -8,16 +8,14 @@ use Rattle.hoa_document.proofs.body.read_edges.Goals as goal
 
 pub returns-in_err-letters : goal.returns-in_err-letters
 returns-in_err-letters c =
-    let p = err_from_is_err_and c.from_residual.result c.from_residual.ensures.1 in
-    rw (p.1, p.2)
+    rw (passes_error _ c.from_residual.ensures.1)
     (λ h bs b sized i.
     let w = c.loop-signals.invariant h bs b sized i in
     c.in_err-letters.ensures (current h bs w.0) sized.1 w.1.stands)
 
 pub returns-in_err-to : goal.returns-in_err-to
 returns-in_err-to c =
-    let p = err_from_is_err_and c.from_residual-in_err-to.result c.from_residual-in_err-to.ensures.1 in
-    rw (p.1, p.2)
+    rw (passes_error _ c.from_residual-in_err-to.ensures.1)
     (λ h bs b sized i.
     let w = c.loop-signals.invariant h bs b sized i in
     let l = c.in_ok-letters.ensures (current h bs w.0) sized.1 w.1.stands in

@@ -1,13 +1,12 @@
 -- `--END--` and then the text's end are read, or the text is refused.
-use Rattle.std.proofs.lemmas.Result.{err_from_is_err_and}
 use Rattle.std.proofs.lemmas.Bool.Decides.{not_from_Decides}
+use Rattle.hoa_tokens.proofs.Returning.{passes_error}
 use Rattle.hoa_document.proofs.Blocks.{blocks_over, text_ends, text_goes_on}
 use Rattle.hoa_document.proofs.body.read_end.Goals as goal
 
 pub returns-in_err-last : goal.returns-in_err-last
 returns-in_err-last c =
-    let p = err_from_is_err_and c.from_residual.result c.from_residual.ensures.1 in
-    rw (p.1, p.2) (λ h rows st. c.in_err-last.ensures _ _ (blocks_over h rows c.requires st))
+    rw (passes_error _ c.from_residual.ensures.1) (λ h rows st. c.in_err-last.ensures _ _ (blocks_over h rows c.requires st))
 
 pub returns-then-not-is_token : goal.returns-then-not-is_token
 returns-then-not-is_token c h rows st =

@@ -1,7 +1,7 @@
 -- What follows the brace of `{0}` is read or the text is refused; behind it the state is good.
 use Rattle.std.proofs.Common.{true, Ok, Err}
-use Rattle.std.proofs.lemmas.Result.{err_from_is_err_and}
 use Rattle.std.proofs.lemmas.Bool.Decides.{not_from_Decides}
+use Rattle.hoa_tokens.proofs.Returning.{passes_error}
 use Rattle.hoa_grammar.specs.Machine.{edges, opened}
 use Rattle.hoa_document.proofs.Blocks.{block_plain, brace_opens, block_good}
 use Rattle.hoa_document.proofs.body.read_good.Goals as goal
@@ -14,14 +14,12 @@ returns-then-not-is_token c h bs drafted inside r =
 pub returns-in_err-zero : goal.returns-in_err-zero
 returns-in_err-zero c =
     let is = c.is_token.ensures.0 c.if-not-is_token.false in
-    let p = err_from_is_err_and c.from_residual.result c.from_residual.ensures.1 in
-    rw (p.1, p.2) (λ h bs drafted inside r. brace_opens h bs c.args.from r is (Err _) c.in_err-zero.ensures.scanned)
+    rw (passes_error _ c.from_residual.ensures.1) (λ h bs drafted inside r. brace_opens h bs c.args.from r is (Err _) c.in_err-zero.ensures.scanned)
 
 pub returns-in_err-behind : goal.returns-in_err-behind
 returns-in_err-behind c =
     let is = c.is_token.ensures.0 c.if-not-is_token.false in
-    let p = err_from_is_err_and c.from_residual-in_err-behind.result c.from_residual-in_err-behind.ensures.1 in
-    rw (p.1, p.2)
+    rw (passes_error _ c.from_residual-in_err-behind.ensures.1)
     (λ h bs drafted inside r.
     let zero = brace_opens h bs c.args.from r is (Ok c.in_ok-zero.zero) c.in_ok-zero.ensures.scanned in
     c.in_err-behind.ensures (edges (opened h bs c.args.from true)) zero)

@@ -1,13 +1,13 @@
 -- What the body says is what the text says.
-use Rattle.std.proofs.lemmas.Result.{err_from_is_err_and, MatchResult-weaker}
+use Rattle.std.proofs.lemmas.Result.{MatchResult-weaker}
+use Rattle.hoa_tokens.proofs.Returning.{passes_error}
 use Rattle.hoa_document.proofs.Meant.{refused_here, writes_here, draft_denotes}
 use Rattle.hoa_document.proofs.OneReading.{says_one}
 use Rattle.hoa_document.proofs.document.read_draft.Goals as goal
 
 pub returns-in_err-begun : goal.returns-in_err-begun
 returns-in_err-begun c =
-    let p = err_from_is_err_and c.from_residual.result c.from_residual.ensures.1 in
-    record { draft = rw (p.1, p.2) c.in_err-begun.ensures; one = says_one c.args.bytes.now }
+    record { draft = rw (passes_error _ c.from_residual.ensures.1) c.in_err-begun.ensures; one = says_one c.args.bytes.now }
 
 pub returns : goal.returns
 returns c =

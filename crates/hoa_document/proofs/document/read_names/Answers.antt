@@ -1,13 +1,12 @@
 -- What the header says is what the text says, once the body is read.
-use Rattle.std.proofs.lemmas.Result.{err_from_is_err_and}
+use Rattle.hoa_tokens.proofs.Returning.{passes_error}
 use Rattle.hoa_document.proofs.Meant.{refused_here, writes_here}
 use Rattle.hoa_document.proofs.document.read_names.Goals as goal
 
 pub returns-in_err-read_body : goal.returns-in_err-read_body
 returns-in_err-read_body c =
-    let p = err_from_is_err_and c.from_residual-in_err-read_body.result c.from_residual-in_err-read_body.ensures.1 in
     let begun = c.in_ok-begun.ensures in
-    rw (p.1, p.2) (refused_here begun.0 begun.1 _ c.in_err-read_body.ensures)
+    rw (passes_error _ c.from_residual-in_err-read_body.ensures.1) (refused_here begun.0 begun.1 _ c.in_err-read_body.ensures)
 
 pub returns : goal.returns
 returns c =

@@ -1,6 +1,6 @@
 -- The tokens that are due come one by one.
 use Rattle.std.proofs.Common.{◌+◌, map, drop}
-use Rattle.std.proofs.lemmas.Result.{err_from_is_err_and}
+use Rattle.hoa_tokens.proofs.Returning.{passes_error}
 use Rattle.hoa_tokens.specs.declared.token.Token.TheVariants.{End}
 use Rattle.hoa_tokens.specs.Scanning.{lexeme}
 use Rattle.hoa_document.proofs.Leading.{stands_there}
@@ -15,8 +15,7 @@ expect-requires c = first_fixed c.args.tokens.now c.loop-token.token-index c.loo
 
 pub returns-in_err-head : goal.returns-in_err-head
 returns-in_err-head c k r =
-    let p = err_from_is_err_and c.from_residual.result c.from_residual.ensures.1 in
-    rw (p.1, p.2) (c.in_err-head.ensures _ k (stands_there (due_at c.args.tokens.now c.loop-token.token-index (c.loop-token.invariant.1 k r) _ c.loop-token-test.true)))
+    rw (passes_error _ c.from_residual.ensures.1) (c.in_err-head.ensures _ k (stands_there (due_at c.args.tokens.now c.loop-token.token-index (c.loop-token.invariant.1 k r) _ c.loop-token-test.true)))
 
 pub loop-token-preserved : goal.loop-token-preserved
 loop-token-preserved c = (

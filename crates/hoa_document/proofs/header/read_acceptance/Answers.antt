@@ -1,7 +1,8 @@
 -- The acceptance is named and then due, or due at once.
 use Rattle.std.proofs.Common.{true, false, Ok, Err}
-use Rattle.std.proofs.lemmas.Result.{err_from_is_err_and, MatchResult-weaker}
+use Rattle.std.proofs.lemmas.Result.{MatchResult-weaker}
 use Rattle.std.proofs.lemmas.Bool.Decides.{not_from_Decides}
+use Rattle.hoa_tokens.proofs.Returning.{passes_error}
 use Rattle.hoa_grammar.specs.Rows.{none}
 use Rattle.hoa_grammar.specs.Machine.{blocks, header_of}
 use Rattle.hoa_document.proofs.Leading.{stands_there}
@@ -11,15 +12,13 @@ use Rattle.hoa_document.proofs.header.read_acceptance.Goals as goal
 pub returns-in_err-head : goal.returns-in_err-head
 returns-in_err-head c n row ws r =
     let is = c.is_token.ensures.0 c.if-is_token.true in
-    let p = err_from_is_err_and c.from_residual.result c.from_residual.ensures.1 in
-    rw (p.1, p.2) (acceptance_named is r (Err _) c.in_err-head.ensures.scanned)
+    rw (passes_error _ c.from_residual.ensures.1) (acceptance_named is r (Err _) c.in_err-head.ensures.scanned)
 
 pub returns-in_err-head-2 : goal.returns-in_err-head-2
 returns-in_err-head-2 c n row ws r =
     let is = c.is_token.ensures.0 c.if-is_token.true in
-    let p = err_from_is_err_and c.from_residual-in_err-head-2.result c.from_residual-in_err-head-2.ensures.1 in
     let named = acceptance_named is r (Ok c.in_ok-head.head) c.in_ok-head.ensures.scanned in
-    rw (p.1, p.2) (c.in_err-head-2.ensures _ _ (stands_there named))
+    rw (passes_error _ c.from_residual-in_err-head-2.ensures.1) (c.in_err-head-2.ensures _ _ (stands_there named))
 
 pub returns-then-is_token : goal.returns-then-is_token
 returns-then-is_token c n row ws r =

@@ -1,6 +1,6 @@
 -- Each name that is read is held behind the others, and the next one is compared with them.
 use Rattle.std.proofs.Common.{◌≡◌, ◌-◌, Ok, Err, sym, ◌∙◌, arith}
-use Rattle.std.proofs.lemmas.Result.{err_from_is_err_and}
+use Rattle.hoa_tokens.proofs.Returning.{passes_error}
 use Rattle.hoa_document.proofs.HeldNames.{no_name, name_repeated, name_read}
 use Rattle.hoa_document.proofs.header.read_names.Goals as goal
 
@@ -19,8 +19,7 @@ returns-then-contains c n row r =
 
 pub returns-in_err-head : goal.returns-in_err-head
 returns-in_err-head c n row r =
-    let p = err_from_is_err_and c.from_residual.result c.from_residual.ensures.1 in
-    rw (p.1, p.2) (name_read c.loop-names.names.count c.args.signals c.loop-names-test.true (c.loop-names.invariant.1 n row r) c.in-Name.name c.in-Name.is (sym c.contains.ensures ∙ c.if-contains.false) (Err _) c.in_err-head.ensures.scanned)
+    rw (passes_error _ c.from_residual.ensures.1) (name_read c.loop-names.names.count c.args.signals c.loop-names-test.true (c.loop-names.invariant.1 n row r) c.in-Name.name c.in-Name.is (sym c.contains.ensures ∙ c.if-contains.false) (Err _) c.in_err-head.ensures.scanned)
 
 pub loop-names-preserved : goal.loop-names-preserved
 loop-names-preserved c = (

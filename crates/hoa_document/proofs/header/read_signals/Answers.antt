@@ -1,6 +1,6 @@
 -- `AP:` is due behind the starts, and then the number of signals.
 use Rattle.std.proofs.Common.{refl}
-use Rattle.std.proofs.lemmas.Result.{err_from_is_err_and}
+use Rattle.hoa_tokens.proofs.Returning.{passes_error}
 use Rattle.hoa_grammar.specs.Rows.{none}
 use Rattle.hoa_grammar.specs.Documents.{most_signals, signals_limit}
 use Rattle.hoa_grammar.specs.Machine.{at, signals, names}
@@ -10,8 +10,7 @@ use Rattle.hoa_document.proofs.header.read_signals.Goals as goal
 
 pub returns-in_err-head : goal.returns-in_err-head
 returns-in_err-head c n row r =
-    let p = err_from_is_err_and c.from_residual.result c.from_residual.ensures.1 in
-    rw (p.1, p.2) (c.in_err-head.ensures _ _ (starts_over c.requires r))
+    rw (passes_error _ c.from_residual.ensures.1) (c.in_err-head.ensures _ _ (starts_over c.requires r))
 
 pub returns : goal.returns
 returns c n row r =

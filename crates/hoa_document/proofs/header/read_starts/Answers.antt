@@ -1,7 +1,7 @@
 -- Each `Start:` adds a state to the set, and the token behind it is further ahead.
 use Rattle.std.proofs.Common.{Ok, Err}
-use Rattle.std.proofs.lemmas.Result.{err_from_is_err_and}
 use Rattle.std.proofs.lemmas.Bool.Decides.{not_from_Decides}
+use Rattle.hoa_tokens.proofs.Returning.{passes_error}
 use Rattle.hoa_document.proofs.Starts.{no_starts, start_due, start_read, one_start_more, number_shortens}
 use Rattle.hoa_document.proofs.header.read_starts.Goals as goal
 
@@ -11,14 +11,12 @@ loop-text-init c = no_starts c.requires.reached
 pub returns-in_err-behind : goal.returns-in_err-behind
 returns-in_err-behind c =
     let is = c.is_token.ensures.0 c.loop-text-test.true in
-    let p = err_from_is_err_and c.from_residual.result c.from_residual.ensures.1 in
-    rw (p.1, p.2) (start_due c.loop-text.invariant is (Err _) c.in_err-behind.ensures.scanned)
+    rw (passes_error _ c.from_residual.ensures.1) (start_due c.loop-text.invariant is (Err _) c.in_err-behind.ensures.scanned)
 
 pub returns-in_err-start : goal.returns-in_err-start
 returns-in_err-start c =
     let is = c.is_token.ensures.0 c.loop-text-test.true in
-    let p = err_from_is_err_and c.from_residual-in_err-start.result c.from_residual-in_err-start.ensures.1 in
-    rw (p.1, p.2) (start_read c.loop-text.invariant is c.in_ok-behind.behind c.in_ok-behind.ensures.scanned (Err _) c.in_err-start.ensures.read)
+    rw (passes_error _ c.from_residual-in_err-start.ensures.1) (start_read c.loop-text.invariant is c.in_ok-behind.behind c.in_ok-behind.ensures.scanned (Err _) c.in_err-start.ensures.read)
 
 pub loop-text-smaller : goal.loop-text-smaller
 loop-text-smaller c =

@@ -1,6 +1,6 @@
 -- The first words of a text are due, and then the number of its states.
 use Rattle.std.proofs.Common.{Ok, Err, refl}
-use Rattle.std.proofs.lemmas.Result.{err_from_is_err_and}
+use Rattle.hoa_tokens.proofs.Returning.{passes_error}
 use Rattle.hoa_grammar.specs.Rows.{none}
 use Rattle.hoa_grammar.specs.Documents.{most_states, states_limit}
 use Rattle.hoa_grammar.specs.Machine.{at, states, starts}
@@ -10,13 +10,11 @@ use Rattle.hoa_document.proofs.header.read_states.Goals as goal
 
 pub returns-in_err-head : goal.returns-in_err-head
 returns-in_err-head c =
-    let p = err_from_is_err_and c.from_residual.result c.from_residual.ensures.1 in
-    rw (p.1, p.2) (first_token c.args.text.bytes.now (Err _) c.in_err-head.ensures.scanned)
+    rw (passes_error _ c.from_residual.ensures.1) (first_token c.args.text.bytes.now (Err _) c.in_err-head.ensures.scanned)
 
 pub returns-in_err-head-2 : goal.returns-in_err-head-2
 returns-in_err-head-2 c =
-    let p = err_from_is_err_and c.from_residual-in_err-head-2.result c.from_residual-in_err-head-2.ensures.1 in
-    rw (p.1, p.2) (c.in_err-head-2.ensures states (first_token c.args.text.bytes.now (Ok c.in_ok-head.head) c.in_ok-head.ensures.scanned))
+    rw (passes_error _ c.from_residual-in_err-head-2.ensures.1) (c.in_err-head-2.ensures states (first_token c.args.text.bytes.now (Ok c.in_ok-head.head) c.in_ok-head.ensures.scanned))
 
 pub returns : goal.returns
 returns c =
