@@ -5,33 +5,25 @@ ghost use Rattle.evidence.specs.Strips.{TellsLasso, verdict_number, word_at, sta
 ghost use Rattle.evidence.specs.Asking.{StepAt};
 ghost use Rattle.evidence.specs.declared.verdict.Verdict.TheVariants as verdict;
 
-use automaton::Automaton;
+use automaton::{Automaton, has_step};
 
 /// Whether a strip whose first word is that of a lasso tells one, which then shows an accepted word.
 pub(crate) fn is_lasso<A: Automaton>(automaton: &A, strip: &[u32]) -> bool
-    requires opening { 3 ≤ length strip.now }
-    requires verdict { word_at strip.now 0 ≡ verdict_number verdict.Lasso }
+    requires { word_at strip.now 0 ≡ verdict_number verdict.Lasso }
     ensures tells { T result ↔ TellsLasso (A.Automaton.meaning automaton.now) strip.now }
     ensures worth { T result → SomeWord (A.Automaton.meaning automaton.now) }
 {
-    let m = strip[1] as usize;
-    let q = strip[2] as usize;
-    if q == 0 {
+    let [_, stem, round, start, ..] = strip else {
         return false;
-    }
-    if !has_steps(strip, m, q) {
-        return false;
-    }
-    if !begins(automaton, strip) {
-        return false;
-    }
-    if !ends_good(automaton, strip, m) {
-        return false;
-    }
-    if !closes(strip, m, q) {
-        return false;
-    }
-    goes(automaton, strip, m + q)
+    };
+    let m = *stem as usize;
+    let q = *round as usize;
+    q != 0
+        && has_steps(strip, m, q)
+        && automaton.is_start(*start)
+        && ends_good(automaton, strip, m)
+        && closes(strip, m, q)
+        && goes(automaton, strip, m + q)
 }
 
 /// Whether a strip is long enough for a stem of `m` steps and a loop of `q`, which are any words.
@@ -41,14 +33,6 @@ fn has_steps(strip: &[u32], m: usize, q: usize) -> bool
     ensures { T result ↔ (4 + 2 * (m + q) ≤ length strip.now) }
 {
     4 + 2 * (m + q) <= strip.len()
-}
-
-/// Whether the strip's first state is a start.
-fn begins<A: Automaton>(automaton: &A, strip: &[u32]) -> bool
-    requires { 4 ≤ length strip.now }
-    ensures { T result ↔ T ((A.Automaton.meaning automaton.now).start (state_at strip.now 0)) }
-{
-    automaton.is_start(strip[3])
 }
 
 /// Whether the state at the stem's end is good.
@@ -72,25 +56,14 @@ fn goes<A: Automaton>(automaton: &A, strip: &[u32], count: usize) -> bool
     requires { 4 + 2 * count ≤ length strip.now }
     ensures { T result ↔ ((i : ℕ) → i < count → StepAt (A.Automaton.meaning automaton.now) strip.now i) }
 {
-    for i in 0..count {
-        if !is_step(
-            automaton,
-            strip[3 + 2 * i],
-            strip[4 + 2 * i],
-            strip[3 + 2 * (i + 1)],
-        ) {
-            return false;
-        }
-    }
-    true
+    (0..count).all(|i| has_step_at(automaton, strip, i))
 }
 
-/// Whether a step leads from `s` by the letter to `t`.
-fn is_step<A: Automaton>(automaton: &A, s: u32, letter: u32, t: u32) -> bool
-    ensures { T result ↔ T ((A.Automaton.meaning automaton.now).step s letter t) }
+/// Whether step `i` of the strip is a step of the automaton.
+fn has_step_at<A: Automaton>(automaton: &A, strip: &[u32], i: usize) -> bool
+    requires { 5 + 2 * i < length strip.now }
+    ensures { T result ↔ StepAt (A.Automaton.meaning automaton.now) strip.now i }
 {
-    match automaton.next(s, letter, t) {
-        Some(lowest) => lowest == t,
-        None => false,
-    }
+    let at = 3 + 2 * i;
+    has_step(automaton, strip[at], strip[at + 1], strip[at + 2])
 }
