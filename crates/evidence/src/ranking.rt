@@ -23,7 +23,11 @@ pub(crate) fn is_ranking<A: Automaton>(automaton: &A, strip: &[u32]) -> bool
     *states == n
         && *zero == 0
         && has_ranks(strip, n)
-        && are_ranked(automaton, &strip[3..3 + n as usize])
+        && Ranks {
+            automaton,
+            ranks: &strip[3..3 + n as usize],
+        }
+        .are_ranked()
 }
 
 /// Whether a strip is long enough for the ranks of `n` states.
@@ -33,50 +37,56 @@ fn has_ranks(strip: &[u32], n: u32) -> bool
     3 + n as usize <= strip.len()
 }
 
-/// Whether every state's rank is one that a ranking may give it.
-fn are_ranked<A: Automaton>(automaton: &A, ranks: &[u32]) -> bool
-    requires { length ranks.now ≡ (A.Automaton.meaning automaton.now).states }
-    ensures { T result ↔ ((s : ℕ) → s < length ranks.now → Ranked (A.Automaton.meaning automaton.now) ranks.now s) }
-{
-    (0..automaton.states()).all(|s| is_ranked(automaton, ranks, s))
+/// The ranks of an automaton's states, one for each.
+#[derive(Drop)]
+struct Ranks<'a, A: Automaton> {
+    automaton: &'a A,
+    ranks: &'a [u32],
+    ghost whole: { length ranks.now ≡ (A.Automaton.meaning automaton.now).states },
 }
 
-/// Whether the rank of the state `s` is one that a ranking may give it.
-fn is_ranked<A: Automaton>(automaton: &A, ranks: &[u32], s: u32) -> bool
-    requires ranks { length ranks.now ≡ (A.Automaton.meaning automaton.now).states }
-    requires state { s < length ranks.now }
-    ensures { T result ↔ Ranked (A.Automaton.meaning automaton.now) ranks.now s }
-{
-    if is_outside(ranks[s as usize]) {
-        !automaton.is_start(s)
-    } else {
-        allows_all(automaton, ranks, s)
+impl<A: Automaton> Ranks<'_, A> {
+    /// Whether every state's rank is one that a ranking may give it.
+    fn are_ranked(&self) -> bool
+        ensures { T result ↔ ((s : ℕ) → s < length self.now.ranks.now → Ranked (A.Automaton.meaning self.now.automaton.now) self.now.ranks.now s) }
+    {
+        (0..self.automaton.states()).all(|s| self.is_ranked(s))
     }
-}
 
-/// Whether the ranks allow every step from `s`.
-fn allows_all<A: Automaton>(automaton: &A, ranks: &[u32], s: u32) -> bool
-    requires ranks { length ranks.now ≡ (A.Automaton.meaning automaton.now).states }
-    requires state { s < length ranks.now }
-    ensures { T result ↔ ((a : ℕ) → AllowedBy (A.Automaton.meaning automaton.now) ranks.now s a) }
-{
-    (0..letters(automaton)).all(|letter| allows_by(automaton, ranks, s, letter))
-}
-
-/// Whether the ranks allow every step from `s` by the letter.
-fn allows_by<A: Automaton>(automaton: &A, ranks: &[u32], s: u32, letter: u32) -> bool
-    requires ranks { length ranks.now ≡ (A.Automaton.meaning automaton.now).states }
-    requires state { s < length ranks.now }
-    ensures { T result ↔ AllowedBy (A.Automaton.meaning automaton.now) ranks.now s letter }
-{
-    let good = automaton.is_good(s);
-    let rank = ranks[s as usize];
-    for t in successors(automaton, s, letter) {
-        if !allows(good, rank, ranks[t as usize]) {
-            return false;
+    /// Whether the rank of the state `s` is one that a ranking may give it.
+    fn is_ranked(&self, s: u32) -> bool
+        requires { s < length self.now.ranks.now }
+        ensures { T result ↔ Ranked (A.Automaton.meaning self.now.automaton.now) self.now.ranks.now s }
+    {
+        if is_outside(self.ranks[s as usize]) {
+            !self.automaton.is_start(s)
+        } else {
+            self.allows_all(s)
         }
     }
-    true
+
+    /// Whether the ranks allow every step from the state `s`.
+    fn allows_all(&self, s: u32) -> bool
+        requires { s < length self.now.ranks.now }
+        ensures { T result ↔ ((a : ℕ) → AllowedBy (A.Automaton.meaning self.now.automaton.now) self.now.ranks.now s a) }
+    {
+        (0..letters(self.automaton)).all(|letter| self.allows_by(s, letter))
+    }
+
+    /// Whether the ranks allow every step from the state `s` by the letter.
+    fn allows_by(&self, s: u32, letter: u32) -> bool
+        requires { s < length self.now.ranks.now }
+        ensures { T result ↔ AllowedBy (A.Automaton.meaning self.now.automaton.now) self.now.ranks.now s letter }
+    {
+        let good = self.automaton.is_good(s);
+        let rank = self.ranks[s as usize];
+        for t in successors(self.automaton, s, letter) {
+            if !allows(good, rank, self.ranks[t as usize]) {
+                return false;
+            }
+        }
+        true
+    }
 }
 
 /// Whether a step may lead from a state of rank `from`, good or not, to one of rank `to`.
