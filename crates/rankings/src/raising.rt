@@ -37,6 +37,8 @@ fn first_rank(start: bool) -> u32
     if start { 0 } else { OUTSIDE }
 }
 
+// The automaton and the ranks stay two parameters: were they one struct, each clause would have to say that its automaton and its loan stay.
+
 /// Raises ranks round by round until no step asks for more.
 fn settle<A: Automaton>(automaton: &A, ranks: &mut [u32])
     requires { Forced (A.Automaton.meaning automaton.now) ranks.old }
