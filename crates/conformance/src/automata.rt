@@ -45,12 +45,16 @@ fn marked<A: Automaton>(heap: Global, automaton: &A, mark: Mark) -> Result<Vec<u
     Ok(text)
 }
 
-/// The set of one letter, or the empty set.
-fn letter_if(yes: bool, a: u32) -> u32
+/// The set of a letter by which a step leads from `s` to `t`, else the empty set.
+fn step_letter<A: Automaton>(automaton: &A, s: u32, a: u32, t: u32) -> u32
     requires { a < 16 }
-    ensures { result ≡ (if yes then 2 ^ a else 0) }
+    ensures { result ≡ (if (A.Automaton.meaning automaton.now).step s a t then 2 ^ a else 0) }
 {
-    if yes { 1 << a } else { 0 }
+    if has_step(automaton, s, a, t) {
+        1 << a
+    } else {
+        0
+    }
 }
 
 /// The letters by which a step leads from `s` to `t`: bit a is letter a.
@@ -60,7 +64,7 @@ fn step_letters<A: Automaton>(automaton: &A, s: u32, t: u32) -> u32
 {
     let mut set = 0;
     for a in 0..letters(automaton) {
-        set += letter_if(has_step(automaton, s, a, t), a);
+        set += step_letter(automaton, s, a, t);
     }
     set
 }

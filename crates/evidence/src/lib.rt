@@ -8,5 +8,6 @@ mod rechecking;
 mod tests;
 mod verdict;
 
+pub use ranking::OUTSIDE;
 pub use rechecking::recheck;
-pub use verdict::Verdict;
+pub use verdict::{UnknownVerdict, Verdict};

@@ -5,34 +5,29 @@ ghost use Rattle.evidence.specs.Strips.{TellsRanking, verdict_number, word_at, o
 ghost use Rattle.evidence.specs.Asking.{Allowed, AllowedBy, Ranked};
 ghost use Rattle.evidence.specs.declared.verdict.Verdict.TheVariants as verdict;
 
-use automaton::{Automaton, letters};
+use automaton::{Automaton, letters, successors};
 
 /// The word for a state outside.
-const OUTSIDE: u32 = u32::MAX;
+pub const OUTSIDE: u32 = u32::MAX;
 
 /// Whether a strip whose first word is that of a ranking tells one, which then rules out every accepted word.
 pub(crate) fn is_ranking<A: Automaton>(automaton: &A, strip: &[u32]) -> bool
-    requires opening { 3 ≤ length strip.now }
-    requires verdict { word_at strip.now 0 ≡ verdict_number verdict.Ranking }
+    requires { word_at strip.now 0 ≡ verdict_number verdict.Ranking }
     ensures tells { T result ↔ TellsRanking (A.Automaton.meaning automaton.now) strip.now }
     ensures worth { T result → SomeWord (A.Automaton.meaning automaton.now) → ⊥ }
 {
+    let [_, states, zero, ..] = strip else {
+        return false;
+    };
     let n = automaton.states();
-    if !opens(strip, n) {
-        return false;
-    }
-    if !has_ranks(strip, n) {
-        return false;
-    }
-    are_ranked(automaton, &strip[3..3 + n as usize])
-}
-
-/// Whether the second and third word of a strip are those of a ranking of `n` states.
-fn opens(strip: &[u32], n: u32) -> bool
-    requires { 3 ≤ length strip.now }
-    ensures { T result ↔ ((word_at strip.now 1 ≡ n) × (word_at strip.now 2 ≡ 0)) }
-{
-    strip[1] == n && strip[2] == 0
+    *states == n
+        && *zero == 0
+        && has_ranks(strip, n)
+        && Ranks {
+            automaton,
+            ranks: &strip[3..3 + n as usize],
+        }
+        .are_ranked()
 }
 
 /// Whether a strip is long enough for the ranks of `n` states.
@@ -42,76 +37,63 @@ fn has_ranks(strip: &[u32], n: u32) -> bool
     3 + n as usize <= strip.len()
 }
 
-/// Whether every state's rank is one that a ranking may give it.
-fn are_ranked<A: Automaton>(automaton: &A, ranks: &[u32]) -> bool
-    requires ranks { length ranks.now ≡ (A.Automaton.meaning automaton.now).states }
-    requires few { length ranks.now < 2 ^ 32 }
-    ensures { T result ↔ ((s : ℕ) → s < length ranks.now → Ranked (A.Automaton.meaning automaton.now) ranks.now s) }
-{
-    for (s, rank) in ranks.iter().enumerate() {
-        if !is_ranked(automaton, ranks, s as u32, *rank) {
-            return false;
-        }
-    }
-    true
+/// The ranks of an automaton's states, one for each.
+#[derive(Drop)]
+struct Ranks<'a, A: Automaton> {
+    automaton: &'a A,
+    ranks: &'a [u32],
+    ghost whole: { length ranks.now ≡ (A.Automaton.meaning automaton.now).states },
 }
 
-/// Whether `rank`, that of the state `s`, is one that a ranking may give it.
-fn is_ranked<A: Automaton>(automaton: &A, ranks: &[u32], s: u32, rank: u32) -> bool
-    requires ranks { length ranks.now ≡ (A.Automaton.meaning automaton.now).states }
-    requires state { s < length ranks.now }
-    requires rank { rank ≡ slice_index ranks.now s }
-    ensures { T result ↔ Ranked (A.Automaton.meaning automaton.now) ranks.now s }
-{
-    if is_outside(rank) {
-        return !automaton.is_start(s);
+impl<A: Automaton> Ranks<'_, A> {
+    /// Whether every state's rank is one that a ranking may give it.
+    fn are_ranked(&self) -> bool
+        ensures { T result ↔ ((s : ℕ) → s < length self.now.ranks.now → Ranked (A.Automaton.meaning self.now.automaton.now) self.now.ranks.now s) }
+    {
+        (0..self.automaton.states()).all(|s| self.is_ranked(s))
     }
-    allows_all(automaton, ranks, s)
-}
 
-/// Whether the ranks allow every step from `s`.
-fn allows_all<A: Automaton>(automaton: &A, ranks: &[u32], s: u32) -> bool
-    requires ranks { length ranks.now ≡ (A.Automaton.meaning automaton.now).states }
-    requires state { s < length ranks.now }
-    ensures { T result ↔ ((a : ℕ) → AllowedBy (A.Automaton.meaning automaton.now) ranks.now s a) }
-{
-    for letter in 0..letters(automaton) {
-        if !allows_by(automaton, ranks, s, letter) {
-            return false;
+    /// Whether the rank of the state `s` is one that a ranking may give it.
+    fn is_ranked(&self, s: u32) -> bool
+        requires { s < length self.now.ranks.now }
+        ensures { T result ↔ Ranked (A.Automaton.meaning self.now.automaton.now) self.now.ranks.now s }
+    {
+        if is_outside(self.ranks[s as usize]) {
+            !self.automaton.is_start(s)
+        } else {
+            self.allows_all(s)
         }
     }
-    true
-}
 
-/// Whether the ranks allow every step from `s` by the letter.
-fn allows_by<A: Automaton>(automaton: &A, ranks: &[u32], s: u32, letter: u32) -> bool
-    requires ranks { length ranks.now ≡ (A.Automaton.meaning automaton.now).states }
-    requires state { s < length ranks.now }
-    ensures { T result ↔ AllowedBy (A.Automaton.meaning automaton.now) ranks.now s letter }
-{
-    let good = automaton.is_good(s);
-    let rank = ranks[s as usize];
-    let mut from = 0;
-    loop {
-        let Some(t) = automaton.next(s, letter, from) else {
-            break;
-        };
-        if !allows(good, rank, ranks[t as usize]) {
-            return false;
-        }
-        from = t + 1;
+    /// Whether the ranks allow every step from the state `s`.
+    fn allows_all(&self, s: u32) -> bool
+        requires { s < length self.now.ranks.now }
+        ensures { T result ↔ ((a : ℕ) → AllowedBy (A.Automaton.meaning self.now.automaton.now) self.now.ranks.now s a) }
+    {
+        (0..letters(self.automaton)).all(|letter| self.allows_by(s, letter))
     }
-    true
+
+    /// Whether the ranks allow every step from the state `s` by the letter.
+    fn allows_by(&self, s: u32, letter: u32) -> bool
+        requires { s < length self.now.ranks.now }
+        ensures { T result ↔ AllowedBy (A.Automaton.meaning self.now.automaton.now) self.now.ranks.now s letter }
+    {
+        let good = self.automaton.is_good(s);
+        let rank = self.ranks[s as usize];
+        for t in successors(self.automaton, s, letter) {
+            if !allows(good, rank, self.ranks[t as usize]) {
+                return false;
+            }
+        }
+        true
+    }
 }
 
 /// Whether a step may lead from a state of rank `from`, good or not, to one of rank `to`.
 fn allows(good: bool, from: u32, to: u32) -> bool
     ensures { T result ↔ Allowed good from to }
 {
-    if is_outside(to) {
-        return false;
-    }
-    if good { to < from } else { to <= from }
+    !is_outside(to) && if good { to < from } else { to <= from }
 }
 
 /// Whether a rank is that of a state outside.

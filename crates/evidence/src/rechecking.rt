@@ -7,9 +7,6 @@ use crate::ranking::is_ranking;
 use crate::verdict::Verdict;
 use automaton::Automaton;
 
-/// The words that every strip opens with.
-const OPENING: usize = 3;
-
 /// Whether the strip is evidence for the automaton: it opens with a lasso or with a ranking of it.
 ///
 /// A yes to a lasso shows an endless word that is accepted, and a yes to a ranking rules out every one.
@@ -18,14 +15,12 @@ pub fn recheck<A: Automaton>(automaton: &A, strip: &[u32]) -> bool
     ensures evidence { T result ↔ Evidence (A.Automaton.meaning automaton.now) strip.now }
     ensures worth { T result → Worth (A.Automaton.meaning automaton.now) strip.now }
 {
-    if strip.len() < OPENING {
+    let [word, ..] = strip else {
         return false;
+    };
+    match Verdict::try_from(*word) {
+        Ok(Verdict::Lasso) => is_lasso(automaton, strip),
+        Ok(Verdict::Ranking) => is_ranking(automaton, strip),
+        Err(_) => false,
     }
-    if strip[0] == Verdict::Lasso.number() {
-        return is_lasso(automaton, strip);
-    }
-    if strip[0] == Verdict::Ranking.number() {
-        return is_ranking(automaton, strip);
-    }
-    false
 }

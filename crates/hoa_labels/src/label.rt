@@ -40,131 +40,123 @@ fn letters_of_signal(signals: Signals, signal: u32, place: usize) -> Result<u16,
     Ok(signals.letters_with(signal))
 }
 
-/// The letters, with the token behind the one in hand.
-fn passed<'a>(text: Text<'a>, head: Placed<'a>, letters: u16) -> Result<Read<'a, u16>, Fault>
-    ensures { Passed text.entry.bytes.now head.entry letters result }
-{
-    let behind = text.scan(head.next)?;
-    Ok(Read {
-        value: letters,
-        head: behind,
-    })
-}
-
-/// The part with the token behind the mark that has to end it.
-fn closed<'a>(text: Text<'a>, part: Read<'a, u16>, mark: Mark) -> Result<Read<'a, u16>, Fault>
-    ensures { ClosedBy mark text.entry.bytes.now part.entry result }
-{
-    if part.head.token != Token::Mark(mark) {
-        return Err(Refusal::Unexpected.at(part.head.place));
-    }
-    passed(text, part.head, part.value)
-}
-
-/// Terms joined by `|`, from the token in hand on.
-#[cycle(factor_label_term)]
-fn label<'a>(
+/// What labels are read from: a text, and the signals that it has.
+#[derive(Clone, Copy)]
+struct Reader<'a> {
     text: Text<'a>,
-    head: Placed<'a>,
     signals: Signals,
-    room: u32,
-) -> Result<Read<'a, u16>, Fault>
-    ensures { LabelRead text.entry.bytes.now head.entry signals.count room result }
-{
-    let Read {
-        value: mut letters,
-        mut head,
-    } = term(text, head, signals, room)?;
-    while head.token == Token::Mark(Mark::Or) {
-        let behind = text.scan(head.next)?;
-        let more = term(text, behind, signals, room)?;
-        letters = either(letters, more.value);
-        head = more.head;
-    }
-    Ok(Read {
-        value: letters,
-        head,
-    })
 }
 
-/// Factors joined by `&`, from the token in hand on.
-#[cycle(factor_label_term)]
-fn term<'a>(
-    text: Text<'a>,
-    head: Placed<'a>,
-    signals: Signals,
-    room: u32,
-) -> Result<Read<'a, u16>, Fault>
-    ensures { TermRead text.entry.bytes.now head.entry signals.count room result }
-{
-    let Read {
-        value: mut letters,
-        mut head,
-    } = factor(text, head, signals, room)?;
-    while head.token == Token::Mark(Mark::And) {
-        let behind = text.scan(head.next)?;
-        let more = factor(text, behind, signals, room)?;
-        letters = both(letters, more.value);
-        head = more.head;
+impl<'a> Reader<'a> {
+    /// The letters, with the token behind the one in hand.
+    fn passed(self, head: Placed<'a>, letters: u16) -> Result<Read<'a, u16>, Fault>
+        ensures { Passed self.entry.text.bytes.now head.entry letters result }
+    {
+        let behind = self.text.scan(head.next)?;
+        Ok(Read {
+            value: letters,
+            head: behind,
+        })
     }
-    Ok(Read {
-        value: letters,
-        head,
-    })
-}
 
-/// `t`, `f`, a signal, `!` and a factor, or a label in parentheses, with room for so many more `(` and `!`.
-#[cycle(factor_label_term)]
-fn factor<'a>(
-    text: Text<'a>,
-    head: Placed<'a>,
-    signals: Signals,
-    room: u32,
-) -> Result<Read<'a, u16>, Fault>
-    ensures { FactorRead text.entry.bytes.now head.entry signals.count room result }
-{
-    match head.token {
-        Token::Word(word) => {
-            let letters = letters_of_word(signals, word, head.place)?;
-            passed(text, head, letters)
+    /// The part with the token behind the mark that has to end it.
+    fn closed(self, part: Read<'a, u16>, mark: Mark) -> Result<Read<'a, u16>, Fault>
+        ensures { ClosedBy mark self.entry.text.bytes.now part.entry result }
+    {
+        if part.head.token != Token::Mark(mark) {
+            return Err(Refusal::Unexpected.at(part.head.place));
         }
-        Token::Number(signal) => {
-            let letters = letters_of_signal(signals, signal, head.place)?;
-            passed(text, head, letters)
-        }
-        Token::Mark(mark) => match mark {
-            Mark::Not => {
-                let inside = room_inside(room, head.place)?;
-                let behind = text.scan(head.next)?;
-                let part = factor(text, behind, signals, inside)?;
-                Ok(Read {
-                    value: signals.others(part.value),
-                    head: part.head,
-                })
-            }
-            Mark::OpenParen => {
-                let inside = room_inside(room, head.place)?;
-                let behind = text.scan(head.next)?;
-                let group = label(text, behind, signals, inside)?;
-                closed(text, group, Mark::CloseParen)
-            }
-            _ => Err(Refusal::Unexpected.at(head.place)),
-        },
-        Token::Name(_) | Token::End => Err(Refusal::Unexpected.at(head.place)),
+        self.passed(part.head, part.value)
     }
-}
 
-/// The label of an edge, from behind its `[` to behind its `]`, with room for so many `(` and `!`.
-fn bracketed<'a>(
-    text: Text<'a>,
-    head: Placed<'a>,
-    signals: Signals,
-    room: u32,
-) -> Result<Read<'a, u16>, Fault>
-    ensures { room ≡ deepest → BracketedRead text.entry.bytes.now head.entry signals.count result }
-{
-    let part = label(text, head, signals, room)?;
-    closed(text, part, Mark::CloseBracket)
+    // `label` and `term` stay two functions. One for both would be handed the reading of a part as a closure, which leads back to it,
+    // and could promise only something about whatever the closure reads.
+
+    /// Terms joined by `|`, from the token in hand on.
+    #[cycle(factor_label_term)]
+    fn label(self, head: Placed<'a>, room: u32) -> Result<Read<'a, u16>, Fault>
+        ensures { LabelRead self.entry.text.bytes.now head.entry self.entry.signals.count room result }
+    {
+        let Read {
+            value: mut letters,
+            mut head,
+        } = self.term(head, room)?;
+        while head.token == Token::Mark(Mark::Or) {
+            let behind = self.text.scan(head.next)?;
+            let more = self.term(behind, room)?;
+            letters = either(letters, more.value);
+            head = more.head;
+        }
+        Ok(Read {
+            value: letters,
+            head,
+        })
+    }
+
+    /// Factors joined by `&`, from the token in hand on.
+    #[cycle(factor_label_term)]
+    fn term(self, head: Placed<'a>, room: u32) -> Result<Read<'a, u16>, Fault>
+        ensures { TermRead self.entry.text.bytes.now head.entry self.entry.signals.count room result }
+    {
+        let Read {
+            value: mut letters,
+            mut head,
+        } = self.factor(head, room)?;
+        while head.token == Token::Mark(Mark::And) {
+            let behind = self.text.scan(head.next)?;
+            let more = self.factor(behind, room)?;
+            letters = both(letters, more.value);
+            head = more.head;
+        }
+        Ok(Read {
+            value: letters,
+            head,
+        })
+    }
+
+    /// `t`, `f`, a signal, `!` and a factor, or a label in parentheses, with room for so many more `(` and `!`.
+    #[cycle(factor_label_term)]
+    fn factor(self, head: Placed<'a>, room: u32) -> Result<Read<'a, u16>, Fault>
+        ensures { FactorRead self.entry.text.bytes.now head.entry self.entry.signals.count room result }
+    {
+        match head.token {
+            Token::Word(word) => {
+                let letters = letters_of_word(self.signals, word, head.place)?;
+                self.passed(head, letters)
+            }
+            Token::Number(signal) => {
+                let letters = letters_of_signal(self.signals, signal, head.place)?;
+                self.passed(head, letters)
+            }
+            Token::Mark(mark) => match mark {
+                Mark::Not => {
+                    let inside = room_inside(room, head.place)?;
+                    let behind = self.text.scan(head.next)?;
+                    let part = self.factor(behind, inside)?;
+                    Ok(Read {
+                        value: self.signals.others(part.value),
+                        head: part.head,
+                    })
+                }
+                Mark::OpenParen => {
+                    let inside = room_inside(room, head.place)?;
+                    let behind = self.text.scan(head.next)?;
+                    let group = self.label(behind, inside)?;
+                    self.closed(group, Mark::CloseParen)
+                }
+                _ => Err(Refusal::Unexpected.at(head.place)),
+            },
+            Token::Name(_) | Token::End => Err(Refusal::Unexpected.at(head.place)),
+        }
+    }
+
+    /// The label of an edge, from behind its `[` to behind its `]`, with room for so many `(` and `!`.
+    fn bracketed(self, head: Placed<'a>, room: u32) -> Result<Read<'a, u16>, Fault>
+        ensures { room ≡ deepest → BracketedRead self.entry.text.bytes.now head.entry self.entry.signals.count result }
+    {
+        let part = self.label(head, room)?;
+        self.closed(part, Mark::CloseBracket)
+    }
 }
 
 /// The label of an edge, from behind its `[` to behind its `]`.
@@ -175,5 +167,6 @@ pub fn read_label<'a>(
 ) -> Result<Read<'a, u16>, Fault>
     ensures { BracketedRead text.entry.bytes.now head.entry signals.count result }
 {
-    bracketed(text, head, signals, DEEPEST)
+    let reader = Reader { text, signals };
+    reader.bracketed(head, DEEPEST)
 }

@@ -16,6 +16,8 @@ const GREATEST_NUMBER: u32 = 9_999;
 /// The most bytes of a name.
 const LONGEST_NAME: usize = 32;
 
+// The steps take the bytes and a place, and no pair of them: what one step answers is a place in the same bytes, which a pair would have to say again.
+
 /// The place behind the run of bytes of the class that begins at `from`.
 fn run_end(text: &[u8], from: usize, class: Class) -> usize
     requires { from ≤ length text.now }

@@ -1,18 +1,14 @@
 -- A strip of zeros with the opening words of a ranking and with settled ranks behind them tells the least ranking.
-use Rattle.std.proofs.Common.{◌≡◌, ℕ, zero, suc, ◌+◌, ◌-◌, ◌<◌, ◌≤◌, List, ◌++◌, length, get_or, take, drop, set, replicate, sym, refl, ap, ◌∙◌, arith, length-set}
+use Rattle.std.proofs.Common.{◌≡◌, ℕ, ◌+◌, ◌-◌, ◌<◌, ◌≤◌, List, ◌++◌, length, take, drop, set, replicate, sym, ap, ◌∙◌, arith, length-set}
 use borrow.Rule.Slice.PartMut.{put_mid, post_of}
 use Rattle.std.proofs.lemmas.List.{length-take-le, length-append, length-drop, get_or_append_left, get_or-append-add, get_or-take, get_or-drop, get_or-set_same, get_or-set_other}
 use Rattle.omega.specs.Automata.{Meaning, Sound}
 use Rattle.evidence.specs.Strips.{word_at, verdict_number}
 use Rattle.evidence.specs.declared.verdict.Verdict.TheVariants as verdict
+use Rattle.tables.proofs.Added.{zero_everywhere}
 use Rattle.relaxing.proofs.Settled.{settled_least}
 use Rattle.rankings.specs.Deciding.{LeastTold}
 use Rattle.rankings.specs.Ranks.{Settled}
-
-zero_at : (m i : ℕ) → get_or (replicate {A = ℕ} m 0) i 0 ≡ 0
-zero_at zero i = refl
-zero_at (suc m) zero = refl
-zero_at (suc m) (suc i) = zero_at m i
 
 -- the words of a strip after a write of ys to its part of k words from a on
 module _ (a k : ℕ) (xs ys : List ℕ) (inside : a + k ≤ length xs) (part : length ys ≡ k) where
@@ -52,7 +48,7 @@ module _ (A : Meaning) (sound : Sound A) (strip ranks : List ℕ) (n k first : �
   unfolding opened
   opened_zero i late =
       get_or-set_other (set strip 0 first) 1 i n 0 (omega arith) ∙ get_or-set_other strip 0 i first 0 (omega arith)
-      ∙ ap (λ words. word_at words i) clear ∙ zero_at (length strip) i
+      ∙ ap (λ words. word_at words i) clear ∙ zero_everywhere (length strip) i
 
   opened_length : length opened ≡ length strip
   unfolding opened

@@ -36,7 +36,7 @@ fn decide<A: Automaton>(automaton: &A, n: u32, strip: &mut [u32]) -> Verdict
     requires clear { strip.old ≡ replicate (length strip.old) 0 }
     ensures { RankingFound (A.Automaton.meaning automaton.now) strip.new result }
 {
-    strip[0] = Verdict::Ranking.number();
+    strip[0] = Verdict::Ranking.into();
     strip[1] = n;
     if rank_states(automaton, &mut strip[3..3 + n as usize]) {
         return Verdict::Ranking;

@@ -6,10 +6,8 @@ ghost use Rattle.evidence.specs.Strips.{outside};
 ghost use Rattle.relaxing.specs.Rounds.{Inside, Forced, rank_at_first, MetBy, MetFrom, Relaxed, Risen, TooHigh, AllLow};
 ghost use Rattle.rankings.specs.Ranks.{Settled};
 
-use automaton::{Automaton, letters};
-
-/// The word for a state outside.
-const OUTSIDE: u32 = u32::MAX;
+use automaton::{Automaton, letters, successors};
+use evidence::OUTSIDE;
 
 /// Leaves ranks that no step asks to raise, and answers whether they make a ranking, which is then the least; if not, there is a lasso.
 pub(crate) fn rank_states<A: Automaton>(automaton: &A, ranks: &mut [u32]) -> bool
@@ -27,8 +25,8 @@ fn place_starts<A: Automaton>(automaton: &A, ranks: &mut [u32])
     requires { length ranks.old ≡ (A.Automaton.meaning automaton.now).states }
     ensures { (s : ℕ) → s < length ranks.new → slice_index ranks.new s ≡ rank_at_first ((A.Automaton.meaning automaton.now).start s) }
 {
-    for s in 0..automaton.states() {
-        ranks[s as usize] = first_rank(automaton.is_start(s));
+    for (s, rank) in ranks.iter_mut().enumerate() {
+        *rank = first_rank(automaton.is_start(s as u32));
     }
 }
 
@@ -38,6 +36,8 @@ fn first_rank(start: bool) -> u32
 {
     if start { 0 } else { OUTSIDE }
 }
+
+// The automaton and the ranks stay two parameters: were they one struct, each clause would have to say that its automaton and its loan stay.
 
 /// Raises ranks round by round until no step asks for more.
 fn settle<A: Automaton>(automaton: &A, ranks: &mut [u32])
@@ -56,9 +56,7 @@ fn relax_all<A: Automaton>(automaton: &A, ranks: &mut [u32]) -> bool
 {
     let mut changed = false;
     for s in 0..automaton.states() {
-        if relax_from(automaton, ranks, s) {
-            changed = true;
-        }
+        changed |= relax_from(automaton, ranks, s);
     }
     changed
 }
@@ -85,9 +83,7 @@ fn relax_letters<A: Automaton>(automaton: &A, ranks: &mut [u32], s: u32) -> bool
 {
     let mut changed = false;
     for letter in 0..letters(automaton) {
-        if relax_by(automaton, ranks, s, letter) {
-            changed = true;
-        }
+        changed |= relax_by(automaton, ranks, s, letter);
     }
     changed
 }
@@ -101,15 +97,8 @@ fn relax_by<A: Automaton>(automaton: &A, ranks: &mut [u32], s: u32, letter: u32)
 {
     let good = automaton.is_good(s);
     let mut changed = false;
-    let mut from = 0;
-    loop {
-        let Some(t) = automaton.next(s, letter, from) else {
-            break;
-        };
-        if relax_step(ranks, good, s, t) {
-            changed = true;
-        }
-        from = t + 1;
+    for t in successors(automaton, s, letter) {
+        changed |= relax_step(ranks, good, s, t);
     }
     changed
 }
@@ -145,12 +134,7 @@ fn are_low(ranks: &[u32]) -> bool
     ensures low { T result → AllLow (length ranks.now) ranks.now }
     ensures high { result ≡ false → TooHigh (length ranks.now) ranks.now }
 {
-    for rank in ranks {
-        if is_high(*rank, ranks.len()) {
-            return false;
-        }
-    }
-    true
+    !ranks.iter().any(|rank| is_high(*rank, ranks.len()))
 }
 
 /// Whether a rank is that of a state inside, and above `n`.

@@ -1,5 +1,6 @@
 -- Ranks that rise one time after another have risen, and what was done stays done where nothing changed.
-use Rattle.std.proofs.Common.{ℕ, ◌+◌, ◌<◌, ◌≤◌, Bool, true, false, List, sym, refl, ap, ◌∙◌, subst, true≢false, arith, below_more}
+use Rattle.std.proofs.Common.{ℕ, ◌+◌, ◌<◌, ◌≤◌, Bool, true, false, ◌≡◌, ◌||◌, List, sym, refl, ap, ◌∙◌, subst, true≢false, arith, below_more}
+use Rattle.std.proofs.Math.Bool.{or-true, or-false}
 use Rattle.omega.specs.Automata.{Meaning}
 use Rattle.relaxing.specs.Rounds.{Forced, rooms, Risen, Swept}
 
@@ -17,7 +18,7 @@ risen_rooms A before after false r = omega (arith, ap (rooms A.states) (r.same r
 
 module _ (A : Meaning) (Done : List ℕ → ℕ → Type 0) (before middle after : List ℕ) (changed : Bool) (i : ℕ) where
   -- a step that changes a rank
-  pub changed_swept : (j : ℕ) → Swept A Done before middle changed i → Risen A middle after true → Swept A Done before after true j
+  changed_swept : (j : ℕ) → Swept A Done before middle changed i → Risen A middle after true → Swept A Done before after true j
   changed_swept j (risen, _) more = (
     record {
       forced = more.forced;
@@ -39,11 +40,17 @@ module _ (A : Meaning) (Done : List ℕ → ℕ → Type 0) (before middle after
         less = λ c. omega (arith, risen.less c, ap (rooms A.states) e);
       }
 
-  pub kept_swept : (j : ℕ) → Swept A Done before middle changed i → Risen A middle after false → (((k : ℕ) → k < i → Done after k) → (k : ℕ) → k < j → Done after k) → Swept A Done before after changed j
+  kept_swept : (j : ℕ) → Swept A Done before middle changed i → Risen A middle after false → (((k : ℕ) → k < i → Done after k) → (k : ℕ) → k < j → Done after k) → Swept A Done before after changed j
   kept_swept j (risen, done) none more = (
     kept_risen risen none,
     λ c. more (λ k b. subst (λ ranks. Done ranks k) (sym (none.same refl)) (done c k b)),
   )
 
-  pub kept_swept_next : Swept A Done before middle changed i → Risen A middle after false → Done after i → Swept A Done before after changed (i + 1)
-  kept_swept_next swept none here = kept_swept (i + 1) swept none (λ done. below_more _ _ done here)
+  -- a step that may change one
+  pub swept_more : (j : ℕ) (r : Bool) → Swept A Done before middle changed i → Risen A middle after r →
+      (r ≡ false → ((k : ℕ) → k < i → Done after k) → (k : ℕ) → k < j → Done after k) → Swept A Done before after (changed || r) j
+  swept_more j true swept some more = rw (or-true changed) (changed_swept j swept some)
+  swept_more j false swept none more = rw (or-false changed) (kept_swept j swept none (more refl))
+
+  pub swept_next : (r : Bool) → Swept A Done before middle changed i → Risen A middle after r → (r ≡ false → Done after i) → Swept A Done before after (changed || r) (i + 1)
+  swept_next r swept risen here = swept_more (i + 1) r swept risen (λ kept done. below_more _ _ done (here kept))

@@ -5,9 +5,9 @@ use Rattle.conformance.proofs.automata.step_letters.Given as given
 use Rattle.conformance.proofs.automata.step_letters.Goals as goal
 
 -- the set with one more letter
-more : (g : given.Over) (c : goal.After-letter_if-set g) → c.loop-a.set + c.letter_if-set.result ≡ letter_set (λ a. (g.A.Automaton.meaning c.args.automaton.now).step c.args.s a c.args.t) (c.loop-a.a + 1)
+more : (g : given.Over) (c : goal.After-step_letter-set g) → c.loop-a.set + c.step_letter-set.result ≡ letter_set (λ a. (g.A.Automaton.meaning c.args.automaton.now).step c.args.s a c.args.t) (c.loop-a.a + 1)
 more g c =
-    letter_set_more _ c.loop-a.a c.loop-a.set c.letter_if-set.result c.loop-a.invariant (c.letter_if-set.ensures ∙ ap (λ (b : Bool). cond b (2 ^ c.loop-a.a) 0) c.has_step.ensures)
+    letter_set_more _ c.loop-a.a c.loop-a.set c.step_letter-set.result c.loop-a.invariant c.step_letter-set.ensures
 
 pub overflow_add-set : goal.overflow_add-set
 overflow_add-set g c = omega (arith, more g c, letter_set_few (λ a. (g.A.Automaton.meaning c.args.automaton.now).step c.args.s a c.args.t) (c.loop-a.a + 1) (omega arith))

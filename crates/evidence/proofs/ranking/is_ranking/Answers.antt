@@ -1,22 +1,23 @@
-use Rattle.std.proofs.Common.{T, ◌↔◌, ◌∙◌, arith}
-use Rattle.evidence.specs.Strips.{TellsRanking}
+use Rattle.std.proofs.Common.{◌≡◌, ◌+◌, ◌≤◌, length, T, ◌↔◌, ◌∙◌, rules, arith}
+use Rattle.evidence.specs.Strips.{TellsRanking, word_at}
 use Rattle.evidence.proofs.Ranks.{part_ranking}
 use Rattle.evidence.proofs.Worths.{told_ranking_refutes}
 use Rattle.evidence.proofs.ranking.is_ranking.Goals as goal
 
-pub returns : goal.returns
-returns g c =
+pub returns-then-has_ranks : goal.returns-then-has_ranks
+returns-then-has_ranks g c =
     let A = g.A.Automaton.meaning c.args.automaton.now in
     let strip = c.args.strip.now in
     let n = c.states-n.result in
     let count = c.states-n.ensures.is in
-    let (second, third) = c.if-not-opens.ensures.0 tt in
-    let long = c.if-not-has_ranks.ensures.0 tt in
+    let second : word_at strip 1 ≡ n = search rules in
+    let third : word_at strip 2 ≡ 0 = search rules in
+    let long : 3 + n ≤ length strip = search rules in
     let ranking = part_ranking A (g.A.Automaton.sound c.args.automaton.now) strip n count long in
     let tells : T c.are_ranked.result ↔ TellsRanking A strip = (
       λ yes.
           record {
-            verdict = c.requires.verdict;
+            verdict = c.requires;
             states = second ∙ count;
             zero = third;
             long = omega arith;

@@ -1,27 +1,20 @@
-use Rattle.std.proofs.Common.{arith}
-use Rattle.omega.proofs.Successors.{none_left_all_seen}
-use Rattle.relaxing.proofs.Visiting.{visit_changed, visit_kept}
+use Rattle.automaton.proofs.Walks.{over_lowest, over_above, over_more, over_all_seen}
+use Rattle.relaxing.specs.Rounds.{StepMet}
+use Rattle.relaxing.proofs.Visiting.{visited}
 use Rattle.rankings.proofs.raising.relax_by.Goals as goal
-use Rattle.rankings.proofs.raising.relax_by.Goals.{then-relax_step, else-relax_step}
-
-pub overflow_add-from : goal.overflow_add-from
-overflow_add-from g c = omega (arith, c.in-Some.ensures.lands, (g.A.Automaton.sound c.args.automaton.now).few)
 
 pub loop-t-preserved : goal.loop-t-preserved
 loop-t-preserved g c =
     let A = g.A.Automaton.meaning c.args.automaton.now in
     let sound = g.A.Automaton.sound c.args.automaton.now in
-    let lowest = c.in-Some.ensures.is in (
-      omega (arith, c.in-Some.ensures.lands),
-      elim c.if-relax_step.branch [
-        | then-relax_step w ↦ rw w.changed-is (visit_changed A sound c.args.ranks.now c.loop-t.ranks c.relax_step.new.ranks c.loop-t.changed c.args.s c.args.letter c.loop-t.from c.in-Some.t c.is_good-good.result c.is_good-good.ensures.is c.requires.inside lowest c.loop-t.invariant.1 w.if-relax_step.ensures)
-        | else-relax_step w ↦ rw w.changed-is (visit_kept A sound c.args.ranks.now c.loop-t.ranks c.relax_step.new.ranks c.loop-t.changed c.args.s c.args.letter c.loop-t.from c.in-Some.t c.is_good-good.result c.is_good-good.ensures.is c.requires.inside lowest c.loop-t.invariant.1 w.if-relax_step.ensures)
-      ],
+    let (over, swept) = c.loop-t.invariant in
+    let gives = c.in-Some.ensures.steps in (
+      over_more over gives,
+      rw (over_above over gives) (visited A sound c.args.ranks.now c.loop-t.ranks c.relax_step-changed.new.ranks c.loop-t.changed c.args.s c.args.letter c.loop-t.t-iterator.from c.in-Some.t c.is_good-good.result c.is_good-good.ensures.is c.requires.inside (over_lowest over gives) swept c.relax_step-changed.result c.relax_step-changed.ensures),
     )
 
-pub returns : goal.returns
-returns g c =
-    record {
-      risen = c.loop-t.invariant.1.0;
-      met = λ kept. none_left_all_seen _ _ c.loop-t.from (c.loop-t.invariant.1.1 kept) c.in_default.ensures.is;
-    }
+pub returns-clause-met : goal.returns-clause-met
+returns-clause-met g c = λ kept.
+    let A = g.A.Automaton.meaning c.args.automaton.now in
+    let (over, swept) = c.loop-t.invariant in
+    over_all_seen (StepMet A c.loop-t.ranks c.args.s) over (swept.1 kept) c.in-None.ensures.steps

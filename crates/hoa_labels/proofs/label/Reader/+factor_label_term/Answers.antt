@@ -5,7 +5,7 @@ use Rattle.hoa_tokens.proofs.Returning.{passes_error}
 use Rattle.hoa_tokens.specs.Scanning.{lexeme}
 use Rattle.hoa_labels.proofs.Factors.{word_read, word_fails, signal_read, signal_fails, mark_fails, name_or_end_fails, opens_factor, opens_label, too_deep, scan_fails, part_fails, negation_read, group_closed}
 use Rattle.hoa_labels.proofs.Turns.{term_first, term_fails_first, term_scan_fails, term_part_fails, term_more, label_first, label_fails_first, label_scan_fails, label_part_fails, label_more}
-use Rattle.hoa_labels.proofs.label.+factor_label_term.Goals as goal
+use Rattle.hoa_labels.proofs.label.Reader.+factor_label_term.Goals as goal
 
 pub factor-returns-in_err-letters-in-Word : goal.factor-returns-in_err-letters-in-Word
 factor-returns-in_err-letters-in-Word t c =
@@ -13,7 +13,7 @@ factor-returns-in_err-letters-in-Word t c =
 
 pub factor-returns-in_ok-letters-in-Word : goal.factor-returns-in_ok-letters-in-Word
 factor-returns-in_ok-letters-in-Word t c =
-    word_read c.args.text.bytes.now c.args.head c.args.signals.count c.args.room (ap lexeme c.in-Word.is) c.in_ok-letters-in-Word.letters c.in_ok-letters-in-Word.ensures c.passed.result c.passed.ensures
+    word_read c.args.self.text.bytes.now c.args.head c.args.self.signals.count c.args.room (ap lexeme c.in-Word.is) c.in_ok-letters-in-Word.letters c.in_ok-letters-in-Word.ensures c.passed.result c.passed.ensures
 
 pub factor-returns-in_err-letters-in-Number : goal.factor-returns-in_err-letters-in-Number
 factor-returns-in_err-letters-in-Number t c =
@@ -23,7 +23,7 @@ factor-returns-in_err-letters-in-Number t c =
 pub factor-returns-in_ok-letters-in-Number : goal.factor-returns-in_ok-letters-in-Number
 factor-returns-in_ok-letters-in-Number t c =
     let read = c.in_ok-letters-in-Number.ensures in
-    signal_read c.args.text.bytes.now c.args.head c.args.signals.count c.args.room (ap lexeme c.in-Number.is) c.in_ok-letters-in-Number.letters read.0 read.1 c.passed-in-Number.result c.passed-in-Number.ensures
+    signal_read c.args.self.text.bytes.now c.args.head c.args.self.signals.count c.args.room (ap lexeme c.in-Number.is) c.in_ok-letters-in-Number.letters read.0 read.1 c.passed-in-Number.result c.passed-in-Number.ensures
 
 pub factor-returns-in_err-inside-in-Not : goal.factor-returns-in_err-inside-in-Not
 factor-returns-in_err-inside-in-Not t c =
@@ -70,34 +70,34 @@ pub term-returns-in_err-letters : goal.term-returns-in_err-letters
 term-returns-in_err-letters t c =
     rw (passes_error _ c.from_residual.ensures.1) (term_fails_first c.in_err-letters.ensures)
 
-pub term-loop-signals-init : goal.term-loop-signals-init
-term-loop-signals-init t c = term_first c.in_ok-letters.ensures
+pub term-loop-head-init : goal.term-loop-head-init
+term-loop-head-init t c = term_first c.in_ok-letters.ensures
 
 pub term-returns-in_err-behind : goal.term-returns-in_err-behind
 term-returns-in_err-behind t c =
-    rw (passes_error _ c.from_residual-in_err-behind.ensures.1) (term_scan_fails c.loop-signals.invariant (search rules) c.in_err-behind.field-0.0 c.in_err-behind.ensures.scanned)
+    rw (passes_error _ c.from_residual-in_err-behind.ensures.1) (term_scan_fails c.loop-head.invariant (search rules) c.in_err-behind.field-0.0 c.in_err-behind.ensures.scanned)
 
 pub term-returns-in_err-more : goal.term-returns-in_err-more
 term-returns-in_err-more t c =
-    rw (passes_error _ c.from_residual-in_err-more.ensures.1) (term_part_fails c.loop-signals.invariant (search rules) c.in_ok-behind.ensures.scanned c.in_err-more.field-0.0 c.in_err-more.ensures)
+    rw (passes_error _ c.from_residual-in_err-more.ensures.1) (term_part_fails c.loop-head.invariant (search rules) c.in_ok-behind.ensures.scanned c.in_err-more.field-0.0 c.in_err-more.ensures)
 
-pub term-loop-signals-preserved : goal.term-loop-signals-preserved
-term-loop-signals-preserved t c = rw c.both-letters.ensures (term_more c.loop-signals.invariant (search rules) c.in_ok-behind.ensures.scanned c.in_ok-more.more c.in_ok-more.ensures)
+pub term-loop-head-preserved : goal.term-loop-head-preserved
+term-loop-head-preserved t c = rw c.both-letters.ensures (term_more c.loop-head.invariant (search rules) c.in_ok-behind.ensures.scanned c.in_ok-more.more c.in_ok-more.ensures)
 
 pub label-returns-in_err-letters : goal.label-returns-in_err-letters
 label-returns-in_err-letters t c =
     rw (passes_error _ c.from_residual.ensures.1) (label_fails_first c.in_err-letters.ensures)
 
-pub label-loop-signals-init : goal.label-loop-signals-init
-label-loop-signals-init t c = label_first c.in_ok-letters.ensures
+pub label-loop-head-init : goal.label-loop-head-init
+label-loop-head-init t c = label_first c.in_ok-letters.ensures
 
 pub label-returns-in_err-behind : goal.label-returns-in_err-behind
 label-returns-in_err-behind t c =
-    rw (passes_error _ c.from_residual-in_err-behind.ensures.1) (label_scan_fails c.loop-signals.invariant (search rules) c.in_err-behind.field-0.0 c.in_err-behind.ensures.scanned)
+    rw (passes_error _ c.from_residual-in_err-behind.ensures.1) (label_scan_fails c.loop-head.invariant (search rules) c.in_err-behind.field-0.0 c.in_err-behind.ensures.scanned)
 
 pub label-returns-in_err-more : goal.label-returns-in_err-more
 label-returns-in_err-more t c =
-    rw (passes_error _ c.from_residual-in_err-more.ensures.1) (label_part_fails c.loop-signals.invariant (search rules) c.in_ok-behind.ensures.scanned c.in_err-more.field-0.0 c.in_err-more.ensures)
+    rw (passes_error _ c.from_residual-in_err-more.ensures.1) (label_part_fails c.loop-head.invariant (search rules) c.in_ok-behind.ensures.scanned c.in_err-more.field-0.0 c.in_err-more.ensures)
 
-pub label-loop-signals-preserved : goal.label-loop-signals-preserved
-label-loop-signals-preserved t c = rw c.either-letters.ensures (label_more c.loop-signals.invariant (search rules) c.in_ok-behind.ensures.scanned c.in_ok-more.more c.in_ok-more.ensures)
+pub label-loop-head-preserved : goal.label-loop-head-preserved
+label-loop-head-preserved t c = rw c.either-letters.ensures (label_more c.loop-head.invariant (search rules) c.in_ok-behind.ensures.scanned c.in_ok-more.more c.in_ok-more.ensures)

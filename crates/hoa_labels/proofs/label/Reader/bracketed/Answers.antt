@@ -1,7 +1,7 @@
 -- What `label` promises, and the step at its `]`, give what `bracketed` promises.
 use Rattle.hoa_tokens.proofs.Returning.{passes_error}
 use Rattle.hoa_labels.proofs.Closing.{bracket_fails, bracket_closed}
-use Rattle.hoa_labels.proofs.label.bracketed.Goals as goal
+use Rattle.hoa_labels.proofs.label.Reader.bracketed.Goals as goal
 
 pub returns-in_err-part : goal.returns-in_err-part
 returns-in_err-part c whole =
