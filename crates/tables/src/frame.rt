@@ -5,11 +5,10 @@ ghost use Rattle.omega.specs.Signals.{bit};
 ghost use Rattle.tables.specs.Frames.{IsWithinLimits, SameButStarts, SameButGoods};
 ghost use Rattle.tables.specs.Cells.{most_table_states, StateAdded, StatesAdded};
 
+use automaton::MOST_SIGNALS;
+
 /// The most states of a table.
 pub const MOST_TABLE_STATES: u32 = 64;
-
-/// The most signals of a table.
-const MOST_SIGNALS: u32 = 4;
 
 /// What a table has besides its cells: how many states and signals, and the sets of its starts and of its good states.
 ///
