@@ -1,17 +1,7 @@
 -- One cell is united with a set of letters, and the limits stay kept.
 use Rattle.std.proofs.Common.{arith}
-use Rattle.tables.proofs.Added.{cell_inside, steps_added, steps_added_in, steps_added_rest}
+use Rattle.tables.proofs.Added.{steps_added, steps_added_in, steps_added_rest}
 use Rattle.tables.proofs.draft.Draft.add_steps.Goals as goal
-
-pub bounds-self-at : goal.bounds-self-at
-bounds-self-at c =
-    let x = c.args.self.now in
-    cell_inside x.frame.states c.args.s c.args.t x.within.few (omega arith) (omega arith)
-
-pub bounds-self-at-2 : goal.bounds-self-at-2
-bounds-self-at-2 c =
-    let x = c.args.self.now in
-    cell_inside x.frame.states c.args.s c.args.t x.within.few (omega arith) (omega arith)
 
 pub invariant_of-self : goal.invariant_of-self
 invariant_of-self c =
