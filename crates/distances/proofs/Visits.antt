@@ -64,7 +64,6 @@ pub record VisitedBelow (A : Meaning) (distance queue distance' parent' queue' :
   pub visited : Visited A distance queue distance' parent' queue' head end end'
   pub some : head < end
   pub from_head : s ≡ at queue head
-  pub few : f ≤ A.states
   pub seen : (t : ℕ) → t < f → T (A.step s a t) → 0 < at distance' t
 
 -- one successor more
@@ -133,12 +132,10 @@ module _ {A : Meaning} (sound : Sound A) {distance queue distance' parent' queue
   more : {distance'' parent'' queue'' : List ℕ} {end'' : ℕ} → Visited A distance' queue' distance'' parent'' queue'' head end' end'' → 0 < at distance'' t →
       VisitedBelow A distance queue distance'' parent'' queue'' head end end'' s a (t + 1)
   more {distance''} W here =
-      let below = sound.enters s a t next.1 in
       record {
         visited = visited-on V.visited W;
         some = V.some;
         from_head = V.from_head;
-        few = omega arith;
         seen = lowest_seen_more (A.step s a) (λ u. 0 < at distance'' u) f (λ u b st. extends_seen distance' distance'' W.extends u (V.seen u b st)) t next here;
       }
 

@@ -1,20 +1,15 @@
 -- The lasso in the strip against every lasso.
-use Rattle.std.proofs.Common.{◌≡◌, ℕ, suc, ◌+◌, ◌-◌, ◌<◌, ◌≤◌, T, ◌↔◌, List, length, take, Option, None, Some, IsSome, sym, refl, ap, ◌∙◌, subst, arith}
+use Rattle.std.proofs.Common.{◌≡◌, ℕ, zero, suc, ◌+◌, ◌<◌, ◌≤◌, T, ◌↔◌, List, length, take, Option, None, Some, IsSome, sym, ap, ◌∙◌, subst, arith}
 use native.Mathlib.Decide.{ℕ_discrete}
 use Rattle.std.proofs.lemmas.List.{get_or-take, length-take-le}
 use Rattle.omega.specs.Automata.{Meaning}
 use Rattle.omega.specs.Lassos.{Lasso, SomeLasso}
-use Rattle.omega.proofs.Paths.{Path}
 use Rattle.distances.specs.Trees.{at}
 use Rattle.distances.proofs.Visits.{searched_fits}
 use Rattle.distances.proofs.Nearest.{path-no-shorter, lasso_paths}
-use Rattle.emptiness.proofs.Returns.{at_most-more}
+use Rattle.emptiness.proofs.Options.{at_most-more, at_most-some}
 use Rattle.emptiness.specs.declared.breadth.Search.{Search}
 use Rattle.emptiness.specs.Parts.{Searching, AtMost, TellsBest, TellsShortest, NoWorse, NoShorter}
-
-at_most-some : (m : ℕ) (most : Option ℕ) → AtMost most m → IsSome most
-at_most-some m None none = absurd none
-at_most-some m (Some k) low = refl
 
 told_fewest :
     {A : Meaning} {strip : List ℕ} (best : Option ℕ) → IsSome best → TellsBest A strip best → ((m q : ℕ) (state letter : ℕ → ℕ) → Lasso A m q state letter → AtMost best (m + q)) → TellsShortest A strip
@@ -55,17 +50,15 @@ module _ {A : Meaning} (s : Search) (search : Searching A s) {order : List ℕ} 
 module _ {A : Meaning} (s : Search) (search : Searching A s) (done : s.head ≡ s.end) (starts : (u : ℕ) → (at s.distance.now u ≡ 1) ↔ T (A.start u))
     {strip : List ℕ} {best : Option ℕ} {i : ℕ} (all : s.end ≤ i) (tried : Tried A s.distance.now s.queue.now strip best i) where
   no_shorter : (m q : ℕ) (state letter : ℕ → ℕ) → Lasso A m q state letter → AtMost best (m + q)
-  no_shorter m q state letter lasso =
-      let (there, back) = lasso_paths A m q state letter lasso in
+  no_shorter m zero state letter lasso = absurd (let loops = lasso.loops in omega arith)
+  no_shorter m (suc q) state letter lasso =
+      let (there, back) = lasso_paths A m (suc q) state letter lasso in
       let one = (starts (state 0)).1 lasso.begins in
       let tree = rw done at search.tree in
       let (reached, near) = path-no-shorter A (at s.distance.now) (at s.parent.now) (at s.queue.now) s.end tree m (state 0) (state m) (omega arith) there in
       let (j, b, place) = search.tree.placed (state m) reached in
-      let loops = lasso.loops in
-      let e : q ≡ suc (q - 1) = omega arith in
-      let round : Path A (suc (q - 1)) (at s.queue.now j) (at s.queue.now j) = rw place (rw e at back) in
       let far : at s.distance.now (at s.queue.now j) ≡ at s.distance.now (state m) = ap (at s.distance.now) {x = at s.queue.now j} place in
-      at_most-more best (omega arith) (tried.least j (omega arith) (subst (λ k. T (A.good k)) (sym place) lasso.good) (q - 1) round)
+      at_most-more {m = at s.distance.now (at s.queue.now j) + q} best (omega arith) (tried.least j (omega arith) (rw place lasso.good) q (rw place back))
 
   pub best_shortest : IsSome best → TellsShortest A strip
   best_shortest some = told_fewest best some tried.tells no_shorter

@@ -1,24 +1,13 @@
 -- The search for a shortest path from a state back to itself.
-use Rattle.std.proofs.Common.{◌≡◌, ℕ, suc, ◌+◌, ◌<◌, ◌≤◌, T, ◌↔◌, Option, None, Some, IsSome, is_some, false, refl, subst, arith}
+use Rattle.std.proofs.Common.{◌≡◌, ℕ, suc, ◌+◌, ◌<◌, ◌≤◌, T, ◌↔◌, Option, None, Some, IsSome, refl, subst, arith}
 use native.Mathlib.Decide.{ℕ_discrete}
 use Rattle.omega.specs.Automata.{Meaning}
 use Rattle.omega.proofs.Paths.{Path}
 use Rattle.distances.specs.Trees.{at}
 use Rattle.distances.proofs.Nearest.{searched_traced, path_past_head}
+use Rattle.emptiness.proofs.Options.{at_most-more}
 use Rattle.emptiness.specs.declared.breadth.Search.{Search}
 use Rattle.emptiness.specs.Parts.{Searching, Visiting, AtMost, Joining, Return}
-
-pub at_most-more : {m n : ℕ} (number : Option ℕ) → m ≤ n → AtMost number m → AtMost number n
-at_most-more None up none = none
-at_most-more (Some k) up low = omega arith
-
-pub at_most-less : {m n : ℕ} (number : Option ℕ) → (AtMost number n → ⊥) → AtMost number m → n ≤ m
-at_most-less None more none = absurd none
-at_most-less (Some k) more low = omega arith
-
-pub no_joining : (A : Meaning) (s t : ℕ) (a : Option ℕ) → is_some a ≡ false → Joining A s t a → (x : ℕ) → T (A.step s x t) → ⊥
-no_joining A s t None missing none = none
-no_joining A s t (Some a) missing step = cc
 
 -- g is the only source, and no state done with has a step to it
 pub record Returning (A : Meaning) (g : ℕ) (s : Search) : Type 0 where

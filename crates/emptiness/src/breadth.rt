@@ -4,28 +4,13 @@ ghost use Rattle.omega.specs.Automata.{most_states};
 ghost use Rattle.distances.specs.Trees.{at, Extends};
 ghost use Rattle.emptiness.specs.Parts.{Joining, Wide, Searching, Visiting, HasRoom, Reaching, cleared, pushed, with_source};
 
-use automaton::{Automaton, letters};
+use automaton::{Automaton, has_step, letters, successors};
 
 /// A letter by which a step leads from `s` to `t`, or none.
 pub(crate) fn letter_between<A: Automaton>(automaton: &A, s: u32, t: u32) -> Option<u32>
     ensures { Joining (A.Automaton.meaning automaton.now) s t result }
 {
-    for letter in 0..letters(automaton) {
-        if is_step(automaton, s, letter, t) {
-            return Some(letter);
-        }
-    }
-    None
-}
-
-/// Whether a step leads from `s` by the letter to `t`.
-fn is_step<A: Automaton>(automaton: &A, s: u32, letter: u32, t: u32) -> bool
-    ensures { T result ↔ T ((A.Automaton.meaning automaton.now).step s letter t) }
-{
-    match automaton.next(s, letter, t) {
-        Some(lowest) => lowest == t,
-        None => false,
-    }
+    (0..letters(automaton)).find(|letter| has_step(automaton, s, *letter, t))
 }
 
 /// A breadth-first search: the queue's states before `end` are reached, and those before `head` are done with.
@@ -115,10 +100,8 @@ impl Search<'_> {
         ensures all { (t : ℕ) → T ((A.Automaton.meaning automaton.now).step (at self.old.queue.now self.old.head) letter t) → 0 < at self.new.distance.now t }
     {
         let s = self.queue[self.head as usize];
-        let mut from = 0;
-        while let Some(t) = automaton.next(s, letter, from) {
+        for t in successors(automaton, s, letter) {
             self.reach(s, t);
-            from = t + 1;
         }
     }
 

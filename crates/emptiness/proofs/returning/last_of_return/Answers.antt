@@ -1,7 +1,8 @@
 use Rattle.std.proofs.Common.{arith}
 use Rattle.distances.specs.Trees.{at}
 use Rattle.distances.proofs.Visits.{searched_fits, queued-fits}
-use Rattle.emptiness.proofs.Returns.{no_joining, return_none, return_far, return_found, return-on}
+use Rattle.emptiness.proofs.Options.{no_joining}
+use Rattle.emptiness.proofs.Returns.{return_none, return_far, return_found, return-on}
 use Rattle.emptiness.proofs.returning.last_of_return.Goals as goal
 
 pub bounds-back-back : goal.bounds-back-back

@@ -1,29 +1,31 @@
-use Rattle.omega.proofs.Successors.{none_left_all_seen}
-use Rattle.std.proofs.Common.{refl, arith, inl, inr}
-use Rattle.distances.proofs.Visits.{queued-fits, visited_none, successor_room, new_visited, old_visited}
+use Rattle.std.proofs.Common.{inl, inr}
+use Rattle.automaton.proofs.Walks.{over_lowest, over_above, over_more, over_all_seen}
+use Rattle.distances.proofs.Visits.{queued-fits, successor_room, new_visited, old_visited}
 use Rattle.emptiness.proofs.breadth.Search.visit_by.Goals as goal
 
 pub bounds-self-self : goal.bounds-self-self
 bounds-self-self g c = (queued-fits c.requires.searching _ c.requires.some).place
 
-pub loop-t-init : goal.loop-t-init
-loop-t-init g c =
-    record { visited = record { visited = visited_none c.requires.searching; some = c.requires.some; from_head = refl; few = omega arith; seen = λ t b. absurd (omega arith) }; head = refl }
-
 pub reach-requires : goal.reach-requires
-reach-requires g c = successor_room (g.A.Automaton.sound c.args.automaton.now) c.loop-t.invariant.visited c.in-Some.ensures.is
+reach-requires g c = successor_room (g.A.Automaton.sound c.args.automaton.now) c.loop-t.invariant.visited (over_lowest c.loop-t.invariant.over c.in-Some.ensures.steps)
 
 pub loop-t-preserved : goal.loop-t-preserved
 loop-t-preserved g c =
+    let kept = c.loop-t.invariant in
+    let sound = g.A.Automaton.sound c.args.automaton.now in
+    let gives = c.in-Some.ensures.steps in
+    let found = over_lowest kept.over gives in
+    let place = over_above kept.over gives in
     elim c.reach.ensures [
-      | inl new ↦ rw new.1 (record { visited = new_visited (g.A.Automaton.sound c.args.automaton.now) c.loop-t.invariant.visited c.in-Some.ensures.is new.0; head = c.loop-t.invariant.head })
-      | inr old ↦ rw old.1 (record { visited = old_visited (g.A.Automaton.sound c.args.automaton.now) c.loop-t.invariant.visited c.in-Some.ensures.is old.0; head = c.loop-t.invariant.head })
+      | inl new ↦ rw new.1 (record { over = over_more kept.over gives; visited = rw place (new_visited sound kept.visited found new.0); head = kept.head })
+      | inr old ↦ rw old.1 (record { over = over_more kept.over gives; visited = rw place (old_visited sound kept.visited found old.0); head = kept.head })
     ]
 
 pub returns : goal.returns
 returns g c =
+    let kept = c.loop-t.invariant in
     record {
-      visiting = rw c.loop-t.invariant.head c.loop-t.invariant.visited.visited;
-      head = c.loop-t.invariant.head;
-      all = none_left_all_seen _ _ c.loop-t.from c.loop-t.invariant.visited.seen c.in_default.ensures.is;
+      visiting = rw kept.head kept.visited.visited;
+      head = kept.head;
+      all = over_all_seen _ kept.over kept.visited.seen c.in-None.ensures.steps;
     }
