@@ -1,5 +1,5 @@
 //! Breadth-first search.
-ghost use Rattle.std.specs.Prelude.{◌≡◌, ℕ, ◌+◌, ◌<◌, ◌≤◌, T, ◌↔◌, length, take};
+ghost use Rattle.std.specs.Prelude.{◌≡◌, ℕ, ◌+◌, ◌*◌, ◌<◌, ◌≤◌, T, ◌↔◌, length, take};
 ghost use Rattle.omega.specs.Automata.{most_states};
 ghost use Rattle.distances.specs.Trees.{at, Extends};
 ghost use Rattle.emptiness.specs.Parts.{Joining, Wide, Searching, Visiting, HasRoom, Reaching, cleared, pushed, with_source};
@@ -27,23 +27,25 @@ pub(crate) struct Search<'w> {
 }
 
 impl<'w> Search<'w> {
-    /// A search in lent lists, in which nothing counts as reached.
-    pub(crate) fn new(
-        distance: &'w mut [u32],
-        parent: &'w mut [u32],
-        queue: &'w mut [u32],
-    ) -> Search<'w>
-        ensures distance { result.distance.now ≡ distance.old }
-        ensures parent { result.parent.now ≡ parent.old }
-        ensures queue { result.queue.now ≡ queue.old }
+    /// A search over `n` states in the first 3n words, and the words behind them.
+    pub(crate) fn over(n: usize, words: &'w mut [u32]) -> (Search<'w>, &'w mut [u32])
+        requires { 3 * n ≤ length words.old }
+        ensures distances { length result.0.distance.now ≡ n }
+        ensures parents { length result.0.parent.now ≡ n }
+        ensures places { length result.0.queue.now ≡ n }
+        ensures rest { length result.1.now + 3 * n ≡ length words.old }
     {
-        Search {
+        let (distance, rest) = words.split_at_mut(n);
+        let (parent, rest) = rest.split_at_mut(n);
+        let (queue, rest) = rest.split_at_mut(n);
+        let search = Search {
             distance,
             parent,
             queue,
             head: 0,
             end: 0,
-        }
+        };
+        (search, rest)
     }
 }
 

@@ -40,13 +40,8 @@ fn find<A: Automaton>(automaton: &A, strip: &mut [u32], work: &mut [u32]) -> Ver
     ensures { ShortestFound (A.Automaton.meaning automaton.now) strip.new result }
 {
     let n = automaton.states() as usize;
-    let (distance, rest) = work.split_at_mut(n);
-    let (parent, rest) = rest.split_at_mut(n);
-    let (queue, rest) = rest.split_at_mut(n);
-    let (back_distance, rest) = rest.split_at_mut(n);
-    let (back_parent, back_queue) = rest.split_at_mut(n);
-    let mut found = Search::new(distance, parent, queue);
-    let mut back = Search::new(back_distance, back_parent, back_queue);
+    let (mut found, rest) = Search::over(n, work);
+    let (mut back, _) = Search::over(n, rest);
     if !find_in(automaton, &mut found, &mut back, strip) {
         clear(strip);
         return Verdict::Ranking;
