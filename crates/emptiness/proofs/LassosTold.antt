@@ -1,5 +1,6 @@
 -- Two paths told one behind the other, and the step that closes the loop, tell a lasso; and a told lasso is told by the words that it uses.
-use Rattle.std.proofs.Common.{◌≡◌, ℕ, ◌+◌, ◌-◌, ◌*◌, ◌<◌, ◌≤◌, T, List, ◌++◌, length, take, set, replicate, sym, ap, ◌∙◌, subst, inl, arith, length-append, length-set, get_or-set_other, get_or-set_same}
+use Rattle.std.proofs.Common.{◌≡◌, ℕ, ◌+◌, ◌-◌, ◌*◌, ◌<◌, ◌≤◌, T, List, ◌++◌, length, take, set, replicate, sym, ap, ◌∙◌, subst, inl, arith, length-append}
+use Rattle.std.proofs.lemmas.Grind.{common_steps}
 use native.Mathlib.Decide.{ℕ_discrete, dec_lt}
 use lib.ListN.{length-replicate}
 use Rattle.std.proofs.lemmas.List.{get_or_append_left, get_or-append_right, get_or-take, length-take-le}
@@ -98,28 +99,14 @@ closed-told :
     ((s : ℕ) → at distance s ≡ 1 → T (A.start s)) → ((s : ℕ) → at back s ≡ 1 → s ≡ g) → T (A.good g) → T (A.step t a g) → 4 + 2 * (m + (q + 1)) ≤ length two →
     TellsLasso A (closing two m (q + 1) g a)
 closed-told A distance back before one two g t m q a stem round starts source good step fit =
-    let y : ℕ = 2 + 2 * (m + (q + 1)) in
-    let x : ℕ = 3 + 2 * (m + (q + 1)) in
-    let w₁ : List ℕ = set two y a in
-    let w₂ : List ℕ = set w₁ x g in
-    let w₃ : List ℕ = set w₂ 0 (verdict_number verdict.Lasso) in
-    let w₄ : List ℕ = set w₃ 1 m in
-    let w₅ : List ℕ = set w₄ 2 (q + 1) in
-    let n₁ : length w₁ ≡ length two = length-set two y a in
-    let n₂ : length w₂ ≡ length w₁ = length-set w₁ x g in
-    let n₃ : length w₃ ≡ length w₂ = length-set w₂ 0 (verdict_number verdict.Lasso) in
-    let n₄ : length w₄ ≡ length w₃ = length-set w₃ 1 m in
-    let n₅ : length w₅ ≡ length w₄ = length-set w₄ 2 (q + 1) in
-    let high : (j : ℕ) → 3 ≤ j → at w₅ j ≡ at w₂ j =
-    λ j b. get_or-set_other w₄ 2 j (q + 1) 0 (omega arith) ∙ get_or-set_other w₃ 1 j m 0 (omega arith) ∙ get_or-set_other w₂ 0 j (verdict_number verdict.Lasso) 0 (omega arith)
-    in
-    lasso_told A distance back one two w₅ g t m q a before stem round starts source good step (omega arith)
-    (get_or-set_other w₄ 2 0 (q + 1) 0 (omega arith) ∙ get_or-set_other w₃ 1 0 m 0 (omega arith) ∙ get_or-set_same w₂ 0 (verdict_number verdict.Lasso) 0 (omega arith))
-    (get_or-set_other w₄ 2 1 (q + 1) 0 (omega arith) ∙ get_or-set_same w₃ 1 m 0 (omega arith))
-    (get_or-set_same w₄ 2 (q + 1) 0 (omega arith))
-    (high y (omega arith) ∙ get_or-set_other w₁ x y g 0 (omega arith) ∙ get_or-set_same two y a 0 (omega arith))
-    (high x (omega arith) ∙ get_or-set_same w₁ x g 0 (omega arith))
-    (λ j b c. high j b ∙ get_or-set_other w₁ x j g 0 (omega arith) ∙ get_or-set_other two y j a 0 (omega arith))
+    let long : length (closing two m (q + 1) g a) ≡ length two = grind (arith, common_steps) in
+    lasso_told A distance back one two (closing two m (q + 1) g a) g t m q a before stem round starts source good step (omega arith)
+    (grind (arith, common_steps))
+    (grind (arith, common_steps))
+    (grind (arith, common_steps))
+    (grind (arith, common_steps))
+    (grind (arith, common_steps))
+    (λ j b c. grind (arith, common_steps))
 
 -- the same of two searches
 pub searches-tell-lasso :
