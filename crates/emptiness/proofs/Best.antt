@@ -1,5 +1,5 @@
 -- The lasso in the strip against every lasso.
-use Rattle.std.proofs.Common.{◌≡◌, ℕ, zero, suc, ◌+◌, ◌<◌, ◌≤◌, T, ◌↔◌, List, length, take, Option, None, Some, IsSome, sym, ap, ◌∙◌, subst, arith}
+use Rattle.std.proofs.Common.{◌≡◌, ℕ, zero, suc, ◌+◌, ◌<◌, ◌≤◌, T, ◌↔◌, List, length, take, Option, None, Some, MatchOption, sym, ap, ◌∙◌, subst, arith}
 use native.Mathlib.Decide.{ℕ_discrete}
 use Rattle.std.proofs.lemmas.List.{get_or-take, length-take-le}
 use Rattle.omega.specs.Automata.{Meaning}
@@ -7,15 +7,21 @@ use Rattle.omega.specs.Lassos.{Lasso, SomeLasso}
 use Rattle.distances.specs.Trees.{at}
 use Rattle.distances.proofs.Visits.{searched_fits}
 use Rattle.distances.proofs.Nearest.{path-no-shorter, lasso_paths}
-use Rattle.emptiness.proofs.Options.{at_most-more, at_most-some}
+use Rattle.emptiness.proofs.Options.{at_most-more}
 use Rattle.emptiness.specs.declared.breadth.Search.{Search}
 use Rattle.emptiness.specs.Parts.{Searching, AtMost, TellsBest, TellsShortest, NoWorse, NoShorter}
 
-told_fewest :
-    {A : Meaning} {strip : List ℕ} (best : Option ℕ) → IsSome best → TellsBest A strip best → ((m q : ℕ) (state letter : ℕ → ℕ) → Lasso A m q state letter → AtMost best (m + q)) → TellsShortest A strip
-told_fewest None some told least = absurd (cc)
-told_fewest (Some steps) some (tells, count) least =
-    (tells, record { lasso = tells.lasso; fewest = λ m q state letter lasso. let x = least m q state letter lasso in omega arith })
+-- where no lasso is shorter than the best, that is a shortest
+shortest_told :
+    {A : Meaning} (strip : List ℕ) (best : Option ℕ) → TellsBest A strip best → ((m q : ℕ) (state letter : ℕ → ℕ) → Lasso A m q state letter → AtMost best (m + q)) →
+    MatchOption best (SomeLasso A → ⊥) (TellsShortest A strip)
+shortest_told strip None told least = λ some. let (m, q, state, letter, lasso) = some in least m q state letter lasso
+shortest_told strip (Some steps) (tells, count) least =
+    record {
+      tells = tells;
+      fewest = record { lasso = tells.lasso; fewest = λ m q state letter lasso. let x = least m q state letter lasso in omega arith };
+      count = count;
+    }
 
 -- the first i states of the order are tried: none begins the loop of a lasso of fewer than `best` steps
 pub record Tried (A : Meaning) (distance order strip : List ℕ) (best : Option ℕ) (i : ℕ) : Type 0 where
@@ -60,8 +66,5 @@ module _ {A : Meaning} (s : Search) (search : Searching A s) (done : s.head ≡ 
       let far : at s.distance.now (at s.queue.now j) ≡ at s.distance.now (state m) = ap (at s.distance.now) {x = at s.queue.now j} place in
       at_most-more {m = at s.distance.now (at s.queue.now j) + q} best (omega arith) (tried.least j (omega arith) (rw place lasso.good) q (rw place back))
 
-  pub best_shortest : IsSome best → TellsShortest A strip
-  best_shortest some = told_fewest best some tried.tells no_shorter
-
-  pub lasso_found : SomeLasso A → IsSome best
-  lasso_found (m, q, state, letter, lasso) = at_most-some (m + q) best (no_shorter m q state letter lasso)
+  pub best_shortest : MatchOption best (SomeLasso A → ⊥) (TellsShortest A strip)
+  best_shortest = shortest_told strip best tried.tells no_shorter

@@ -123,14 +123,14 @@ searches-tell-lasso {A} {found} {back} {before} {one} {two} {three} {g} {t} a st
     subst (TellsLasso A) (sym (e ∙ ap (λ n. closing two m n g a) (sym more))) told
 
 -- a strip with the same words as far as the lasso goes
-module _ (A : Meaning) (strip strip' : List ℕ) (told : TellsShortest A strip) (long : length strip' ≡ length strip)
+module _ (A : Meaning) (strip strip' : List ℕ) {steps : ℕ} (told : TellsShortest A strip steps) (long : length strip' ≡ length strip)
     (same : (k : ℕ) → k < 4 + 2 * (stem_of strip + loop_of strip) → word_at strip' k ≡ word_at strip k) where
   same_state : (i : ℕ) → i ≤ stem_of strip + loop_of strip → state_at strip' i ≡ state_at strip i
   same_state i b = same (3 + 2 * i) (omega arith)
 
   same_lasso : Lasso A (stem_of strip) (loop_of strip) (state_at strip') (letter_at strip')
   same_lasso =
-      let L = told.0.lasso in
+      let L = told.tells.lasso in
       record {
         loops = L.loops;
         begins = subst (λ k. T (A.start k)) (sym (same_state 0 (omega arith))) L.begins;
@@ -146,19 +146,20 @@ module _ (A : Meaning) (strip strip' : List ℕ) (told : TellsShortest A strip) 
       let lasso' : Lasso A (stem_of strip') (loop_of strip') (state_at strip') (letter_at strip') =
       subst (λ k. Lasso A k (loop_of strip') (state_at strip') (letter_at strip')) (sym m) (subst (λ k. Lasso A (stem_of strip) k (state_at strip') (letter_at strip')) (sym q) same_lasso)
       in
-      let room = told.0.long in
+      let room = told.tells.long in
       record {
-        tells = record { verdict = same 0 (omega arith) ∙ told.0.verdict; long = omega arith; lasso = lasso' };
-        fewest = record { lasso = lasso'; fewest = λ m' q' state letter other. let x = told.1.fewest m' q' state letter other in omega arith };
+        tells = record { verdict = same 0 (omega arith) ∙ told.tells.verdict; long = omega arith; lasso = lasso' };
+        fewest = record { lasso = lasso'; fewest = λ m' q' state letter other. let x = told.fewest.fewest m' q' state letter other in omega arith };
         rest = λ k b. rest k (omega arith);
       }
 
 -- the words behind the lasso are cleared
 pub cleared-tells :
-    (A : Meaning) (strip strip' : List ℕ) (used : ℕ) → TellsShortest A strip → used ≡ 4 + 2 * (stem_of strip + loop_of strip) →
+    (A : Meaning) (strip strip' : List ℕ) (used steps : ℕ) → TellsShortest A strip steps → used ≡ 4 + 2 * steps →
     strip' ≡ take used strip ++ replicate (length strip - used) 0 → ShortestTold A strip'
-cleared-tells A strip strip' used told is e =
-    let room = told.0.long in
+cleared-tells A strip strip' used steps told is e =
+    let count = told.count in
+    let room = told.tells.long in
     let front : length (take used strip) ≡ used = length-take-le used strip (omega arith) in
     let long : length strip' ≡ length strip = ap length e ∙ simp (length-append, length-replicate) (omega arith) in
     same_tells A strip strip' told long

@@ -1,5 +1,5 @@
 -- Numbers and letters that may be missing.
-use Rattle.std.proofs.Common.{◌≡◌, ℕ, ◌<◌, ◌≤◌, T, Option, None, Some, IsSome, MatchOption, is_some, false, refl, arith}
+use Rattle.std.proofs.Common.{◌≡◌, ℕ, ◌<◌, ◌≤◌, T, Option, None, Some, MatchOption, is_some, false, arith}
 use Rattle.omega.specs.Automata.{Meaning}
 use Rattle.emptiness.specs.Parts.{AtMost, Joining}
 
@@ -10,10 +10,6 @@ at_most-more (Some k) up low = omega arith
 pub at_most-less : {m n : ℕ} (number : Option ℕ) → (AtMost number n → ⊥) → AtMost number m → n ≤ m
 at_most-less None more none = absurd none
 at_most-less (Some k) more low = omega arith
-
-pub at_most-some : (m : ℕ) (number : Option ℕ) → AtMost number m → IsSome number
-at_most-some m None none = absurd none
-at_most-some m (Some k) low = refl
 
 -- the first number below n that is a letter from s to t, where all letters are below n
 pub first_joining :

@@ -101,6 +101,8 @@ NoWorse old new = (m : ℕ) → AtMost old m → AtMost new m
 abbrev pub NoShorter : Meaning → ℕ → ℕ → Option ℕ → Type 0
 NoShorter A g far best = (k : ℕ) → Path A (suc k) g g → AtMost best (far + k)
 
--- the strip tells a lasso that no other undercuts
-abbrev pub TellsShortest : Meaning → List ℕ → Type 0
-TellsShortest A strip = TellsLasso A strip × Fewest A (stem_of strip) (loop_of strip) (state_at strip) (letter_at strip)
+-- the strip tells a lasso of so many steps that no other undercuts
+pub record TellsShortest (A : Meaning) (strip : List ℕ) (steps : ℕ) : Type 0 where
+  pub tells : TellsLasso A strip
+  pub fewest : Fewest A (stem_of strip) (loop_of strip) (state_at strip) (letter_at strip)
+  pub count : stem_of strip + loop_of strip ≡ steps

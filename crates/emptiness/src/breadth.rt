@@ -2,16 +2,9 @@
 ghost use Rattle.std.specs.Prelude.{◌≡◌, ℕ, ◌+◌, ◌*◌, ◌<◌, ◌≤◌, T, ◌↔◌, length, take};
 ghost use Rattle.omega.specs.Automata.{most_states};
 ghost use Rattle.distances.specs.Trees.{at, Extends};
-ghost use Rattle.emptiness.specs.Parts.{Joining, Wide, Searching, Visiting, HasRoom, Reaching, cleared, pushed, with_source};
+ghost use Rattle.emptiness.specs.Parts.{Wide, Searching, Visiting, HasRoom, Reaching, cleared, pushed, with_source};
 
-use automaton::{Automaton, has_step, letters, successors};
-
-/// A letter by which a step leads from `s` to `t`, or none.
-pub(crate) fn letter_between<A: Automaton>(automaton: &A, s: u32, t: u32) -> Option<u32>
-    ensures { Joining (A.Automaton.meaning automaton.now) s t result }
-{
-    (0..letters(automaton)).find(|letter| has_step(automaton, s, *letter, t))
-}
+use automaton::{Automaton, letters, successors};
 
 /// A breadth-first search: the queue's states before `end` are reached, and those before `head` are done with.
 ///

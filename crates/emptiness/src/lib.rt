@@ -2,6 +2,7 @@
 #![tactic(auto)]
 
 mod breadth;
+mod letters;
 mod returning;
 mod shortest;
 mod telling;

@@ -3,7 +3,8 @@ ghost use Rattle.std.specs.Prelude.{◌<◌, ◌≤◌, IsTrue, ◌↔◌};
 ghost use Rattle.omega.specs.Automata.{most_states};
 ghost use Rattle.emptiness.specs.Parts.{Wide, AtMost, Returns};
 
-use crate::breadth::{Search, letter_between};
+use crate::breadth::Search;
+use crate::letters::letter_between;
 use automaton::Automaton;
 
 /// Whether there is a number, and it is at most `m`.

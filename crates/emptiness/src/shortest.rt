@@ -1,5 +1,5 @@
 //! A lasso of fewest steps.
-ghost use Rattle.std.specs.Prelude.{◌≡◌, ℕ, ◌+◌, ◌*◌, ◌<◌, ◌≤◌, T, ◌↔◌, length, replicate, MatchResult, OnErr, OnOk};
+ghost use Rattle.std.specs.Prelude.{◌≡◌, ℕ, ◌+◌, ◌*◌, ◌<◌, ◌≤◌, T, ◌↔◌, length, replicate, MatchOption, MatchResult, OnErr, OnOk};
 ghost use Rattle.omega.specs.Lassos.{SomeLasso};
 ghost use Rattle.distances.specs.Trees.{at};
 ghost use Rattle.lending.specs.Lending.{Enough, TooShort, strip_words, work_words};
@@ -42,36 +42,35 @@ fn find<A: Automaton>(automaton: &A, strip: &mut [u32], work: &mut [u32]) -> Ver
     let n = automaton.states() as usize;
     let (mut found, rest) = Search::over(n, work);
     let (mut back, _) = Search::over(n, rest);
-    if !find_in(automaton, &mut found, &mut back, strip) {
+    let Some(steps) = find_in(automaton, &mut found, &mut back, strip) else {
         clear(strip);
         return Verdict::Ranking;
-    }
-    let used = 4 + 2 * (strip[1] as usize + strip[2] as usize);
+    };
+    let used = 4 + 2 * steps as usize;
     strip[used..].fill(0);
     Verdict::Lasso
 }
 
-/// Whether there is a lasso: one of fewest steps then opens the strip.
+/// How many steps a lasso has that has fewest, if there is one; it then opens the strip.
 fn find_in<A: Automaton>(
     automaton: &A,
     found: &mut Search,
     back: &mut Search,
     strip: &mut [u32],
-) -> bool
+) -> Option<u32>
     requires wide { Wide (A.Automaton.meaning automaton.now) found.old }
     requires back { Wide (A.Automaton.meaning automaton.now) back.old }
     requires strip { strip_words (A.Automaton.meaning automaton.now).states ≤ length strip.old }
-    ensures some { T result → TellsShortest (A.Automaton.meaning automaton.now) strip.new }
-    ensures none { SomeLasso (A.Automaton.meaning automaton.now) → T result }
+    ensures { MatchOption result (SomeLasso (A.Automaton.meaning automaton.now) → ⊥) (TellsShortest (A.Automaton.meaning automaton.now) strip.new) }
 {
     found.begin_at_starts(automaton);
     found.spread(automaton);
     let found = &*found;
     let mut best = None;
-    for g in found.reached() {
-        best = improve(automaton, *g, best, found, back, strip);
+    for &g in found.reached() {
+        best = improve(automaton, g, best, found, back, strip);
     }
-    best.is_some()
+    best
 }
 
 /// Tells a lasso whose loop begins at `g`, if one has fewer steps than the best so far; answers how many the lasso in the strip has now, if there is one.

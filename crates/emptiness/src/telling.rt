@@ -7,17 +7,10 @@ ghost use Rattle.evidence.specs.declared.verdict.Verdict.TheVariants as verdict;
 ghost use Rattle.lending.specs.Lending.{strip_words};
 ghost use Rattle.emptiness.specs.Parts.{Tracing, FromStarts, Round, TellsPath};
 
-use crate::breadth::{Search, letter_between};
+use crate::breadth::Search;
+use crate::letters::letter_of;
 use automaton::Automaton;
 use evidence::Verdict;
-
-/// A letter by which a step leads from `s` to `t`, where one does.
-fn letter_of<A: Automaton>(automaton: &A, s: u32, t: u32) -> u32
-    requires { (a : ℕ) × T ((A.Automaton.meaning automaton.now).step s a t) }
-    ensures { T ((A.Automaton.meaning automaton.now).step s result t) }
-{
-    letter_between(automaton, s, t).unwrap()
-}
 
 /// Writes state `i` of a lasso's strip and the letter of the step from it.
 fn write_step(strip: &mut [u32], i: usize, state: u32, letter: u32)

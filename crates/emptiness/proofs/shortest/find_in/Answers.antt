@@ -1,8 +1,8 @@
-use Rattle.std.proofs.Common.{arith, rules}
+use Rattle.std.proofs.Common.{arith}
 use Rattle.distances.proofs.Visits.{searched_fits}
 use Rattle.distances.proofs.Nearest.{searched_traced}
 use Rattle.emptiness.proofs.Starting.{starts-kept}
-use Rattle.emptiness.proofs.Best.{tried-more, order_long, order_place, order_reached, best_shortest, lasso_found}
+use Rattle.emptiness.proofs.Best.{tried-more, order_long, order_place, order_reached, best_shortest}
 use Rattle.emptiness.proofs.shortest.find_in.Goals as goal
 
 pub reached-g-items-requires : goal.reached-g-items-requires
@@ -33,7 +33,4 @@ pub returns : goal.returns
 returns g c =
     let long = order_long c.spread.new.self c.spread.ensures.searching c.reached-g-items.ensures in
     let starts = starts-kept (g.A.Automaton.meaning c.args.automaton.now) _ _ c.spread.ensures.extends c.begin_at_starts.ensures.starts in
-    record {
-      some = λ found. best_shortest c.spread.new.self c.spread.ensures.searching c.spread.ensures.all starts (omega arith) c.loop-g.invariant.tried (search rules);
-      none = λ some. let there = lasso_found c.spread.new.self c.spread.ensures.searching c.spread.ensures.all starts (omega arith) c.loop-g.invariant.tried some in search rules;
-    }
+    best_shortest c.spread.new.self c.spread.ensures.searching c.spread.ensures.all starts (omega arith) c.loop-g.invariant.tried

@@ -1,7 +1,7 @@
 use Rattle.std.proofs.Common.{ℕ, T, arith, rules}
 use Rattle.std.proofs.lemmas.Iterator.{first_from_Range}
 use Rattle.emptiness.proofs.Options.{first_joining}
-use Rattle.emptiness.proofs.breadth.letter_between.Goals as goal
+use Rattle.emptiness.proofs.letters.letter_between.Goals as goal
 
 pub returns : goal.returns
 returns g c =
