@@ -1,10 +1,9 @@
 -- Two paths told one behind the other, and the step that closes the loop, tell a lasso; and a told lasso is told by the words that it uses.
-use Rattle.std.proofs.Common.{◌≡◌, ℕ, ◌+◌, ◌-◌, ◌*◌, ◌<◌, ◌≤◌, T, List, ◌++◌, length, take, set, replicate, sym, ap, ◌∙◌, subst, inl, arith, length-append}
+use Rattle.std.proofs.Common.{◌≡◌, ℕ, ◌+◌, ◌-◌, ◌*◌, ◌<◌, ◌≤◌, T, List, length, take, drop, set, replicate, sym, ap, ◌∙◌, subst, inl, arith, rules}
 use Rattle.std.proofs.lemmas.Grind.{common_steps}
+use Rattle.std.proofs.lemmas.List.{places}
+use borrow.Rule.Slice.PartMut.{put_mid}
 use native.Mathlib.Decide.{ℕ_discrete, dec_lt}
-use lib.ListN.{length-replicate}
-use Rattle.std.proofs.lemmas.List.{get_or_append_left, get_or-append_right, get_or-take, length-take-le}
-use Rattle.tables.proofs.Added.{zero_everywhere}
 use Rattle.omega.specs.Automata.{Meaning}
 use Rattle.omega.specs.Lassos.{Lasso}
 use Rattle.distances.specs.Trees.{at}
@@ -15,13 +14,34 @@ use Rattle.emptiness.specs.declared.breadth.Search.{Search}
 use Rattle.emptiness.specs.Parts.{FromStarts, Round, TellsPath, TellsShortest}
 use Rattle.emptiness.proofs.PathsTold.{step_same}
 
-module _ (A : Meaning) (distance back one two three : List ℕ) (g t m q a : ℕ)
-    (before : List ℕ) (stem : TellsPath A distance before one 0 m g) (round : TellsPath A back one two m q t)
+-- the words that close a lasso
+abbrev closing : List ℕ → ℕ → ℕ → ℕ → ℕ → List ℕ
+closing strip m q g a = set (set (set (set (set strip (2 + 2 * (m + q)) a) (3 + 2 * (m + q)) g) 0 (verdict_number verdict.Lasso)) 1 m) 2 q
+
+module _ (A : Meaning) (distance back before one two : List ℕ) (g t m q a : ℕ) (stem : TellsPath A distance before one 0 m g) (round : TellsPath A back one two m q t)
     (starts : (s : ℕ) → at distance s ≡ 1 → T (A.start s)) (source : (s : ℕ) → at back s ≡ 1 → s ≡ g) (good : T (A.good g)) (step : T (A.step t a g))
-    (fit : 4 + 2 * (m + (q + 1)) ≤ length three)
-    (word₀ : word_at three 0 ≡ verdict_number verdict.Lasso) (word₁ : word_at three 1 ≡ m) (word₂ : word_at three 2 ≡ q + 1)
-    (letter : word_at three (2 + 2 * (m + (q + 1))) ≡ a) (state : word_at three (3 + 2 * (m + (q + 1))) ≡ g)
-    (kept : (j : ℕ) → 3 ≤ j → j < 2 + 2 * (m + (q + 1)) → word_at three j ≡ word_at two j) where
+    (fit : 4 + 2 * (m + (q + 1)) ≤ length two) where
+  abbrev three : List ℕ
+  three = closing two m (q + 1) g a
+
+  long : length three ≡ length two
+  long = grind (arith, common_steps)
+
+  kept : (j : ℕ) → 3 ≤ j → j < 2 + 2 * (m + (q + 1)) → word_at three j ≡ word_at two j
+  kept j low high = grind (arith, common_steps)
+
+  letter : word_at three (2 + 2 * (m + (q + 1))) ≡ a
+  letter = grind (arith, common_steps)
+
+  state : word_at three (3 + 2 * (m + (q + 1))) ≡ g
+  state = grind (arith, common_steps)
+
+  word₁ : stem_of three ≡ m
+  word₁ = grind (arith, common_steps)
+
+  word₂ : loop_of three ≡ q + 1
+  word₂ = grind (arith, common_steps)
+
   middle_two : state_at two m ≡ g
   middle_two = source (state_at two m) round.begins
 
@@ -82,31 +102,13 @@ module _ (A : Meaning) (distance back one two three : List ℕ) (g t m q a : ℕ
         closes = state ∙ sym middle;
       }
 
-  lasso_told : TellsLasso A three
+  pub lasso_told : TellsLasso A three
   lasso_told =
       record {
-        verdict = word₀;
-        long = omega arith;
+        verdict = grind (arith, common_steps);
+        long = omega (arith, long, word₁, word₂);
         lasso = subst (λ k. Lasso A k (loop_of three) (state_at three) (letter_at three)) (sym word₁) (subst (λ k. Lasso A m k (state_at three) (letter_at three)) (sym word₂) lasso);
       }
-
--- the words that close a lasso
-abbrev closing : List ℕ → ℕ → ℕ → ℕ → ℕ → List ℕ
-closing strip m q g a = set (set (set (set (set strip (2 + 2 * (m + q)) a) (3 + 2 * (m + q)) g) 0 (verdict_number verdict.Lasso)) 1 m) 2 q
-
-closed-told :
-    (A : Meaning) (distance back before one two : List ℕ) (g t m q a : ℕ) → TellsPath A distance before one 0 m g → TellsPath A back one two m q t →
-    ((s : ℕ) → at distance s ≡ 1 → T (A.start s)) → ((s : ℕ) → at back s ≡ 1 → s ≡ g) → T (A.good g) → T (A.step t a g) → 4 + 2 * (m + (q + 1)) ≤ length two →
-    TellsLasso A (closing two m (q + 1) g a)
-closed-told A distance back before one two g t m q a stem round starts source good step fit =
-    let long : length (closing two m (q + 1) g a) ≡ length two = grind (arith, common_steps) in
-    lasso_told A distance back one two (closing two m (q + 1) g a) g t m q a before stem round starts source good step (omega arith)
-    (grind (arith, common_steps))
-    (grind (arith, common_steps))
-    (grind (arith, common_steps))
-    (grind (arith, common_steps))
-    (grind (arith, common_steps))
-    (λ j b c. grind (arith, common_steps))
 
 -- the same of two searches
 pub searches-tell-lasso :
@@ -119,7 +121,7 @@ searches-tell-lasso {A} {found} {back} {before} {one} {two} {three} {g} {t} a st
     let q : ℕ = at back.distance.now t - 1 in
     let there = returned.reached in
     let more : q + 1 ≡ at back.distance.now t = omega arith in
-    let told = closed-told A found.distance.now back.distance.now before one two g t m q a (stem m (omega arith)) (round q (omega arith)) starts.starts returned.source good step (omega arith) in
+    let told = lasso_told A found.distance.now back.distance.now before one two g t m q a (stem m (omega arith)) (round q (omega arith)) starts.starts returned.source good step (omega arith) in
     subst (TellsLasso A) (sym (e ∙ ap (λ n. closing two m n g a) (sym more))) told
 
 -- a strip with the same words as far as the lasso goes
@@ -155,13 +157,11 @@ module _ (A : Meaning) (strip strip' : List ℕ) {steps : ℕ} (told : TellsShor
 
 -- the words behind the lasso are cleared
 pub cleared-tells :
-    (A : Meaning) (strip strip' : List ℕ) (used steps : ℕ) → TellsShortest A strip steps → used ≡ 4 + 2 * steps →
-    strip' ≡ take used strip ++ replicate (length strip - used) 0 → ShortestTold A strip'
-cleared-tells A strip strip' used steps told is e =
-    let count = told.count in
+    (A : Meaning) (strip part : List ℕ) (used steps : ℕ) → TellsShortest A strip steps → used ≡ 4 + 2 * steps → part ≡ replicate (length (take (length strip - used) (drop used strip))) 0 →
+    ShortestTold A (put_mid used (length strip - used) strip part)
+cleared-tells A strip part used steps told is e =
     let room = told.tells.long in
-    let front : length (take used strip) ≡ used = length-take-le used strip (omega arith) in
-    let long : length strip' ≡ length strip = ap length e ∙ simp (length-append, length-replicate) (omega arith) in
-    same_tells A strip strip' told long
-    (λ k b. ap (λ words. at words k) e ∙ get_or_append_left (take used strip) (replicate (length strip - used) 0) 0 k (omega arith) ∙ get_or-take used strip k 0 (omega arith))
-    (λ k b. ap (λ words. at words k) e ∙ get_or-append_right (take used strip) (replicate (length strip - used) 0) used k 0 front (omega arith) ∙ zero_everywhere (length strip - used) (k - used))
+    let count = told.count in
+    let fits : used ≤ length strip = omega arith in
+    let long : length (put_mid used (length strip - used) strip part) ≡ length strip = grind (arith, common_steps, e) in
+    same_tells A strip (put_mid used (length strip - used) strip part) told long (λ k b. search (rules, places)) (λ k b. search (rules, places))

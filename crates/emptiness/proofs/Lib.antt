@@ -1,5 +1,4 @@
 pub mod Options
-pub mod Clearing
 pub mod Starting
 pub mod Returns
 pub mod PathsTold
