@@ -1,5 +1,5 @@
 -- A queue in which each state stands once has room for a state that it lacks.
-use Rattle.std.proofs.Common.{◌≡◌, ℕ, ◌+◌, ◌<◌, ◌≤◌, ◌≢◌, ◌⊎◌, sym, ap, ◌∙◌, inl, inr, arith}
+use Rattle.std.proofs.Common.{◌≡◌, ℕ, ◌+◌, ◌<◌, ◌≤◌, ◌≢◌, ◌⊎◌, arith}
 use native.Mathlib.Decide.{dec_le}
 use Rattle.omega.specs.Automata.{Meaning}
 use Rattle.omega.proofs.Pigeonhole.{pigeonhole}
@@ -18,18 +18,15 @@ module _ (A : Meaning) (d p q : ℕ → ℕ) (head end : ℕ) (tree : Tree A d p
   tree_fits = queue_fits A.states end q (λ i b. tree.states (q i) (tree.queued i b)) tree.once
 
   pub new_fits : (u : ℕ) → u < A.states → d u ≡ 0 → end < A.states
-  new_fits u below new = let fits = queue_fits A.states (end + 1) more (λ i b. low i b (put_cases q end u i)) (λ i j before b. apart i j before b (put_cases q end u i) (put_cases q end u j)) in omega arith
+  new_fits u below new =
+      let fits = queue_fits A.states (end + 1) more (λ i b. low i b (put_cases q end u i)) (λ i j before b. apart i j before b (put_cases q end u i) (put_cases q end u j)) in
+      omega arith
     where
       more : ℕ → ℕ
       more = put q end u
 
       low : (i : ℕ) → i < end + 1 → ((i ≡ end) × (more i ≡ u)) ⊎ ((i ≢ end) × (more i ≡ q i)) → more i < A.states
-      low i b (inl x) = let e = x.1 in omega arith
-      low i b (inr x) = let e = x.1 in let inside = tree.states (q i) (tree.queued i (let k = x.0 in omega arith)) in omega arith
+      low i b cases = grind (arith, cases, tree.states (q i), tree.queued i)
 
       apart : (i j : ℕ) → i < j → j < end + 1 → ((i ≡ end) × (more i ≡ u)) ⊎ ((i ≢ end) × (more i ≡ q i)) → ((j ≡ end) × (more j ≡ u)) ⊎ ((j ≢ end) × (more j ≡ q j)) → more i ≢ more j
-      apart i j before b (inl x) y e = let k = x.0 in omega arith
-      apart i j before b (inr x) (inl y) e =
-          let same : d (q i) ≡ d u = ap d (sym x.1 ∙ e ∙ y.1) in
-          let seen = tree.queued i (omega arith) in omega arith
-      apart i j before b (inr x) (inr y) e = tree.once i j before (let k = y.0 in omega arith) (sym x.1 ∙ e ∙ y.1)
+      apart i j before b cases cases' e = grind (arith, cases, cases', e, new, tree.queued i, tree.once i j)

@@ -1,5 +1,5 @@
 -- A tree begins with its sources, grows by a new successor of the head at the queue's end, and passes on to the next state of the queue.
-use Rattle.std.proofs.Common.{◌≡◌, ℕ, ◌+◌, ◌<◌, ◌≤◌, T, ◌≢◌, ◌⊎◌, sym, ap, ◌∙◌, subst, inl, inr, arith}
+use Rattle.std.proofs.Common.{◌≡◌, ℕ, ◌+◌, ◌<◌, ◌≤◌, T, ◌≢◌, ◌⊎◌, sym, ap, ◌∙◌, subst, arith}
 use native.Mathlib.Decide.{ℕ_discrete}
 use Rattle.omega.specs.Automata.{Meaning}
 use Rattle.distances.specs.Trees.{Tree}

@@ -1,7 +1,8 @@
 -- Visiting the successors of the queue's head, one after another and letter by letter, in lists.
-use Rattle.std.proofs.Common.{◌≡◌, ℕ, ◌+◌, ◌<◌, ◌≤◌, T, ◌≢◌, ◌⊎◌, List, length, set, Some, sym, refl, ap, ◌∙◌, subst, inl, inr, arith, length-set, get_or-set_other, get_or-set_same}
+use Rattle.std.proofs.Common.{◌≡◌, ℕ, ◌+◌, ◌<◌, ◌≤◌, T, ◌≢◌, List, length, set, Some, sym, refl, ◌∙◌, subst, inl, arith, length-set, get_or-set_other, get_or-set_same}
+use Rattle.std.proofs.lemmas.Grind.{common_steps}
 use native.Mathlib.Decide.{ℕ_discrete}
-use Rattle.omega.specs.Automata.{Meaning, Sound, Lowest, most_states}
+use Rattle.omega.specs.Automata.{Meaning, Sound, Lowest}
 use Rattle.omega.proofs.Successors.{lowest_seen_more}
 use Rattle.distances.specs.Trees.{at, Searched, Extends, Visited, Room}
 use Rattle.distances.proofs.Queues.{tree_fits, new_fits}
@@ -34,13 +35,7 @@ pub extends_seen : (distance distance' : List ℕ) → Extends distance distance
 extends_seen distance distance' ext s seen = omega (arith, ext s)
 
 pub extends_on : (one two three : List ℕ) → Extends one two → Extends two three → Extends one three
-extends_on one two three first second s = on (first s) (second s)
-  where
-    on : (at two s ≡ at one s) ⊎ ((at one s ≡ 0) × (1 < at two s)) → (at three s ≡ at two s) ⊎ ((at two s ≡ 0) × (1 < at three s)) → (at three s ≡ at one s) ⊎ ((at one s ≡ 0) × (1 < at three s))
-    on (inl x) (inl y) = inl (y ∙ x)
-    on (inl x) (inr y) = inr (sym x ∙ y.0, y.1)
-    on (inr x) (inl y) = inr (x.0, omega arith)
-    on (inr x) (inr y) = inr (x.0, y.1)
+extends_on one two three first second s = grind (arith, first s, second s)
 
 pub visited_none : {A : Meaning} {distance parent queue : List ℕ} {head end : ℕ} → Searched A distance parent queue head end → Visited A distance queue distance parent queue head end end
 visited_none found = record { searched = found; grows = omega arith; extends = λ s. inl refl; same = λ i b. refl }
@@ -56,7 +51,7 @@ visited-on {A} {distance} {queue} {distance₁} {parent₁} {queue₁} {distance
       searched = W.searched;
       grows = omega arith;
       extends = extends_on distance distance₁ distance₂ V.extends W.extends;
-      same = λ i b. W.same i (omega arith) ∙ V.same i b;
+      same = λ i b. grind (arith, W.same i, V.same i b);
     }
 
 -- the successors of the state s by the letter a below f are visited, where s is the head
@@ -90,8 +85,8 @@ module _ {A : Meaning} (sound : Sound A) {distance queue distance' parent' queue
       let p = found.parents in
       let q = found.places in
       record {
-        known = subst (λ x. x < length distance') head_is head_fits.inside;
-        small = subst (λ x. at distance' x ≤ most_states) head_is (omega arith);
+        known = rw (← head_is) head_fits.inside;
+        small = rw (← head_is) (omega arith);
         next = omega arith;
         child = omega arith;
         few = omega arith;
@@ -104,28 +99,23 @@ module _ {A : Meaning} (sound : Sound A) {distance queue distance' parent' queue
       let behind = found.behind in
       let room = successor_room in
       let below = sound.enters s a t next.1 in
-      let far : ℕ = at distance' s + 1 in
-      let here : at (set distance' t far) t ≡ far = get_or-set_same distance' t far 0 room.next in
       let seen = found.tree.queued head head_there in
-      let same = ap (at distance') head_is in
       record {
         searched =
             record {
               behind = omega arith;
-              distances = rw (length-set distance' t far) found.distances;
+              distances = rw (length-set distance' t (at distance' s + 1)) found.distances;
               parents = rw (length-set parent' t s) found.parents;
               places = rw (length-set queue' end' t) found.places;
               tree =
-                  tree_grows A (at distance') (at parent') (at queue') (at (set distance' t far)) (at (set parent' t s)) (at (set queue' end' t)) head end' t found.tree new below
-                  (λ x n. get_or-set_other distance' t x far 0 n)
+                  tree_grows A (at distance') (at parent') (at queue') (at (set distance' t (at distance' s + 1))) (at (set parent' t s)) (at (set queue' end' t)) head end' t found.tree new below
+                  (λ x n. get_or-set_other distance' t x (at distance' s + 1) 0 n)
                   (get_or-set_same queue' end' t 0 (room.place new)) (λ x n. get_or-set_other queue' end' x t 0 n)
-                  a head_there step (here ∙ ap (λ x. at distance' x + 1) (sym head_is))
-                  (get_or-set_same parent' t s 0 room.child ∙ sym head_is) (λ x n. get_or-set_other parent' t x s 0 n);
+                  a head_there step (grind (arith, common_steps, room.next, head_is))
+                  (grind (arith, common_steps, room.child, head_is)) (λ x n. get_or-set_other parent' t x s 0 n);
             };
         grows = omega arith;
-        extends = λ x.
-            elim (ℕ_discrete x t)
-            [ yes e ↦ inr (ap (at distance') e ∙ new, let z = ap (at (set distance' t far)) e in omega arith) | no n ↦ inl (get_or-set_other distance' t x far 0 n) ];
+        extends = λ x. grind (arith, common_steps, new, room.next, head_is, seen);
         same = λ i b. get_or-set_other queue' end' i t 0 (omega arith);
       }
 
