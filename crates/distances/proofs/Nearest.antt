@@ -1,24 +1,23 @@
 -- What the distances of a search say of all paths, and how a search begins in lists.
-use Rattle.std.proofs.Common.{◌≡◌, ℕ, zero, suc, ◌+◌, ◌<◌, ◌≤◌, T, ◌≢◌, ◌⊎◌, List, length, set, sym, ap, subst, inl, inr, arith, length-set, get_or-set_other, get_or-set_same}
+use Rattle.std.proofs.Common.{◌≡◌, ℕ, zero, suc, ◌+◌, ◌<◌, ◌≤◌, T, ◌≢◌, ◌⊎◌, List, length, set, ap, subst, inl, inr, arith, length-set, get_or-set_other, get_or-set_same}
+use Rattle.std.proofs.lemmas.Grind.{common_steps}
 use native.Mathlib.Decide.{dec_lt}
 use Rattle.omega.specs.Automata.{Meaning}
 use Rattle.omega.specs.Lassos.{Lasso}
 use Rattle.omega.proofs.Paths.{Path}
 use Rattle.distances.specs.Trees.{at, Tree, Searched, Begun, Traced}
-use Rattle.distances.proofs.Trees.{tree_begins, sources_more, tree_empty}
+use Rattle.distances.proofs.Trees.{tree_begins, tree_empty}
 use Rattle.distances.proofs.Visits.{queued-fits}
 
 -- a finished search: no path from a source is shorter than the distance
 pub path-no-shorter :
     (A : Meaning) (d p q : ℕ → ℕ) (end : ℕ) → Tree A d p q end end →
     (k s t : ℕ) → 0 < d s → Path A k s t → (0 < d t) × (d t ≤ d s + k)
-path-no-shorter A d p q end tree zero s t seen e = let same = ap d e in (omega arith, omega arith)
+path-no-shorter A d p q end tree zero s t seen e = grind (arith, seen, e)
 path-no-shorter A d p q end tree (suc k) s t seen (a, u, step, path) =
     let (i, b, place) = tree.placed s seen in
-    let (reached, low) = tree.done i a u b (subst (λ x. T (A.step x a u)) (sym place) step) in
-    let same = ap d place in
-    let (there, far) = path-no-shorter A d p q end tree k u t reached path in
-    (there, omega arith)
+    let (reached, low) = tree.done i a u b (rw place step) in
+    grind (arith, low, place, path-no-shorter A d p q end tree k u t reached path)
 
 -- a search broken off at its head, where no state done with has a step to g: no path to g is shorter than the head's distance
 module _ (A : Meaning) (d p q : ℕ → ℕ) (head end g : ℕ) (tree : Tree A d p q head end) (closed : (i : ℕ) → i < head → (a : ℕ) → T (A.step (q i) a g) → ⊥) where
@@ -26,13 +25,12 @@ module _ (A : Meaning) (d p q : ℕ → ℕ) (head end g : ℕ) (tree : Tree A d
   head_or_done : (s a u : ℕ) → 0 < d s → T (A.step s a u) → ((head < end) × (d (q head) ≤ d s)) ⊎ ((0 < d u) × (d u ≤ d s + 1) × (u ≢ g))
   head_or_done s a u seen step =
       let (i, b, place) = tree.placed s seen in
-      let same = ap d place in
-      let step' = subst (λ x. T (A.step x a u)) (sym place) step in
+      let step' : T (A.step (q i) a u) = rw place step in
       elim (dec_lt i head) [
         | yes before ↦
             (let (reached, low) = tree.done i a u before step' in
-            inr (reached, omega arith, λ e. closed i before a (subst (λ x. T (A.step (q i) a x)) e step')))
-        | no n ↦ (let low = tree.rising head i (omega arith) b in inl (omega arith, omega arith))
+            inr (reached, grind (arith, low, place), λ e. closed i before a (rw (← e) step')))
+        | no n ↦ inl (grind (arith, b, n), grind (arith, tree.rising head i, b, n, place))
       ]
 
   pub path_past_head : (k s : ℕ) → 0 < d s → Path A (suc k) s g → (head < end) × (d (q head) ≤ d s + k)
@@ -53,11 +51,7 @@ searched_traced {A} {distance} found =
       states = found.tree.states;
       near = λ s.
           elim (dec_lt 0 (at distance s)) [
-            | yes seen ↦
-                (let (i, b, place) = found.tree.placed s seen in
-                let near = (queued-fits found i b).near in
-                let same = ap (at distance) place in
-                omega arith)
+            | yes seen ↦ (let (i, b, place) = found.tree.placed s seen in let fits = queued-fits found i b in grind (arith, place, fits.near))
             | no n ↦ omega arith
           ];
       steps = found.tree.parents;
@@ -87,7 +81,7 @@ begun_more A distance queue end u begun new below room =
       distances = rw (length-set distance u 1) d;
       places = rw (length-set queue end u) q;
       tree = λ p. tree_begins A (at distance) p (at queue) (at (set distance u 1)) p (at (set queue end u)) 0 end u (begun.tree p) new below others last earlier begun.sources here;
-      sources = sources_more A (at distance) (at queue) (at queue) (at (set distance u 1)) (at queue) (at (set queue end u)) 0 end u (begun.tree (at queue)) new below others last earlier begun.sources here;
+      sources = λ s. grind (arith, common_steps, begun.sources s);
     }
 
 pub begun_searched : {A : Meaning} {distance queue : List ℕ} {end : ℕ} → Begun A distance queue end → (parent : List ℕ) → A.states ≤ length parent → Searched A distance parent queue 0 end

@@ -1,5 +1,5 @@
 -- Visiting the successors of the queue's head, one after another and letter by letter, in lists.
-use Rattle.std.proofs.Common.{◌≡◌, ℕ, ◌+◌, ◌<◌, ◌≤◌, T, ◌≢◌, List, length, set, Some, sym, refl, ◌∙◌, subst, inl, arith, length-set, get_or-set_other, get_or-set_same}
+use Rattle.std.proofs.Common.{◌≡◌, ℕ, ◌+◌, ◌<◌, ◌≤◌, ◌↔◌, T, ◌≢◌, List, length, set, Some, sym, refl, ◌∙◌, subst, inl, arith, length-set, get_or-set_other, get_or-set_same}
 use Rattle.std.proofs.lemmas.Grind.{common_steps}
 use native.Mathlib.Decide.{ℕ_discrete}
 use Rattle.omega.specs.Automata.{Meaning, Sound, Lowest}
@@ -36,6 +36,11 @@ extends_seen distance distance' ext s seen = omega (arith, ext s)
 
 pub extends_on : (one two three : List ℕ) → Extends one two → Extends two three → Extends one three
 extends_on one two three first second s = grind (arith, first s, second s)
+
+-- the sources stay the sources
+pub sources_kept :
+    (one two : List ℕ) → Extends one two → (P : ℕ → Type 0) → ((s : ℕ) → (at one s ≡ 1) ↔ P s) → (s : ℕ) → (at two s ≡ 1) ↔ P s
+sources_kept one two ext P sources s = grind (arith, ext s, sources s)
 
 pub visited_none : {A : Meaning} {distance parent queue : List ℕ} {head end : ℕ} → Searched A distance parent queue head end → Visited A distance queue distance parent queue head end end
 visited_none found = record { searched = found; grows = omega arith; extends = λ s. inl refl; same = λ i b. refl }
@@ -154,7 +159,7 @@ module _ {A : Meaning} {distance queue distance' parent' queue' : List ℕ} {hea
         some = V.some;
         seen = λ x t b step.
             elim (ℕ_discrete x a) [
-              | yes e ↦ new t (subst (λ k. T (A.step k a t)) (sym (V.visited.same head V.some)) (subst (λ k. T (A.step (at queue head) k t)) e step))
+              | yes e ↦ new t (rw (V.visited.same head V.some, ← e) step)
               | no n ↦ extends_seen distance' distance'' W.extends t (V.seen x t (omega arith) step)
             ];
       }
@@ -174,9 +179,7 @@ module _ {A : Meaning} {distance queue distance' parent' queue' : List ℕ} {hea
               places = found.places;
               tree =
                   tree-passes A (at distance') (at parent') (at queue') head end' found.tree (omega arith)
-                  (λ x t step.
-                  let step' : T (A.step (at queue head) x t) = subst (λ k. T (A.step k x t)) (V.visited.same head V.some) step in
-                  V.seen x t (all x t step') step');
+                  (λ x t step. let step' = rw (V.visited.same head V.some) at step in V.seen x t (all x t step') step');
             };
         grows = grows;
         extends = V.visited.extends;

@@ -51,7 +51,7 @@ module _ {A : Meaning} (s : Search) (search : Searching A s) {order : List ℕ} 
   order_place i b = let long = order_long in ap (λ words. at words i) is ∙ get_or-take s.end s.queue.now i 0 (omega arith)
 
   pub order_reached : (i : ℕ) → i < length order → 0 < at s.distance.now (at order i)
-  order_reached i b = let long = order_long in subst (λ u. 0 < at s.distance.now u) (sym (order_place i b)) (search.tree.queued i (omega arith))
+  order_reached i b = let long = order_long in rw (order_place i b) (search.tree.queued i (omega arith))
 
 module _ {A : Meaning} (s : Search) (search : Searching A s) (done : s.head ≡ s.end) (starts : (u : ℕ) → (at s.distance.now u ≡ 1) ↔ T (A.start u))
     {strip : List ℕ} {best : Option ℕ} {i : ℕ} (all : s.end ≤ i) (tried : Tried A s.distance.now s.queue.now strip best i) where

@@ -1,9 +1,9 @@
 -- Two paths told one behind the other, and the step that closes the loop, tell a lasso; and a told lasso is told by the words that it uses.
-use Rattle.std.proofs.Common.{◌≡◌, ℕ, ◌+◌, ◌-◌, ◌*◌, ◌<◌, ◌≤◌, T, List, length, take, drop, set, replicate, sym, ap, ◌∙◌, subst, inl, arith, rules}
+use Rattle.std.proofs.Common.{◌≡◌, ℕ, ◌+◌, ◌-◌, ◌*◌, ◌<◌, ◌≤◌, T, List, length, take, drop, set, replicate, sym, ap, ◌∙◌, subst, arith, rules}
 use Rattle.std.proofs.lemmas.Grind.{common_steps}
 use Rattle.std.proofs.lemmas.List.{places}
 use borrow.Rule.Slice.PartMut.{put_mid}
-use native.Mathlib.Decide.{ℕ_discrete, dec_lt}
+use native.Mathlib.Decide.{dec_lt}
 use Rattle.omega.specs.Automata.{Meaning}
 use Rattle.omega.specs.Lassos.{Lasso}
 use Rattle.distances.specs.Trees.{at}
@@ -49,13 +49,10 @@ module _ (A : Meaning) (distance back before one two : List ℕ) (g t m q a : �
   middle_one = let e : 3 + 2 * m ≡ 3 + 2 * (0 + m) = omega arith in ap (at one) e ∙ stem.ends
 
   stem_state : (i : ℕ) → i ≤ m → state_at three i ≡ state_at one i
-  stem_state i b =
-      kept (3 + 2 * i) (omega arith) (omega arith)
-      ∙ (elim (ℕ_discrete i m)
-      [ yes e ↦ ap (state_at two) e ∙ middle_two ∙ sym middle_one ∙ sym (ap (state_at one) e) | no n ↦ round.keeps (3 + 2 * i) (inl (omega arith)) ])
+  stem_state i b = grind (arith, kept (3 + 2 * i), round.keeps (3 + 2 * i), middle_one, middle_two)
 
   stem_letter : (i : ℕ) → i < m → letter_at three i ≡ letter_at one i
-  stem_letter i b = kept (4 + 2 * i) (omega arith) (omega arith) ∙ round.keeps (4 + 2 * i) (inl (omega arith))
+  stem_letter i b = grind (arith, kept (4 + 2 * i), round.keeps (4 + 2 * i))
 
   loop_state : (i : ℕ) → i ≤ q → state_at three (m + i) ≡ state_at two (m + i)
   loop_state i b = kept (3 + 2 * (m + i)) (omega arith) (omega arith)

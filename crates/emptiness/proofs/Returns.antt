@@ -1,9 +1,10 @@
 -- The search for a shortest path from a state back to itself.
-use Rattle.std.proofs.Common.{◌≡◌, ℕ, suc, ◌+◌, ◌<◌, ◌≤◌, T, ◌↔◌, Option, None, Some, IsSome, refl, subst, arith}
+use Rattle.std.proofs.Common.{◌≡◌, ℕ, suc, ◌+◌, ◌<◌, ◌≤◌, T, ◌↔◌, Option, None, Some, IsSome, refl, arith}
 use native.Mathlib.Decide.{ℕ_discrete}
 use Rattle.omega.specs.Automata.{Meaning}
 use Rattle.omega.proofs.Paths.{Path}
 use Rattle.distances.specs.Trees.{at}
+use Rattle.distances.proofs.Visits.{sources_kept}
 use Rattle.distances.proofs.Nearest.{searched_traced, path_past_head}
 use Rattle.emptiness.proofs.Options.{at_most-more}
 use Rattle.emptiness.specs.declared.breadth.Search.{Search}
@@ -49,12 +50,10 @@ module _ {A : Meaning} {g : ℕ} {s : Search} (search : Returning A g s) where
     pub return-on :
         {s' : Search} → ((a : ℕ) → T (A.step (at s.queue.now s.head) a g) → ⊥) → Visiting A s s' → s'.head ≡ s.head + 1 → Returning A g s'
     return-on {s'} none V next =
-        let one = (search.source g).1 refl in
         record {
           searching = V.searched;
-          source = λ u. (λ source. (search.source u).0 (omega (arith, V.extends u)), λ e. let old = (search.source u).1 e in omega (arith, V.extends u));
+          source = sources_kept s.distance.now s'.distance.now V.extends (λ u. u ≡ g) search.source;
           closed = λ i b a step.
-              let step' : T (A.step (at s.queue.now i) a g) = subst (λ k. T (A.step k a g)) (V.same i (omega arith)) step in
-              elim (ℕ_discrete i s.head)
-              [ yes e ↦ none a (subst (λ k. T (A.step (at s.queue.now k) a g)) e step') | no n ↦ search.closed i (omega arith) a step' ];
+              let step' : T (A.step (at s.queue.now i) a g) = rw (V.same i (omega arith)) at step in
+              elim (ℕ_discrete i s.head) [ yes e ↦ none a (rw (← e) step') | no n ↦ search.closed i (omega arith) a step' ];
         }

@@ -4,7 +4,7 @@ use Rattle.std.proofs.lemmas.Grind.{common_steps}
 use lib.ListN.{length-replicate}
 use Rattle.omega.specs.Automata.{Meaning, Sound}
 use Rattle.tables.proofs.Added.{zero_everywhere}
-use Rattle.distances.specs.Trees.{at, Extends, Begun}
+use Rattle.distances.specs.Trees.{at, Begun}
 use Rattle.distances.proofs.Nearest.{begun_empty, begun_more, begun_searched}
 use Rattle.emptiness.specs.declared.breadth.Search.{Search}
 use Rattle.emptiness.specs.Parts.{Wide, Searching, cleared, with_source}
@@ -52,8 +52,3 @@ module _ {A : Meaning} {distance queue : List ℕ} {end k : ℕ} (starts : Start
 pub starts_all :
     {A : Meaning} → Sound A → {distance queue : List ℕ} {end k : ℕ} → A.states ≤ k → StartsBelow A distance queue end k → (s : ℕ) → (at distance s ≡ 1) ↔ T (A.start s)
 starts_all sound all starts s = grind (arith, starts.sources s, sound.starts s)
-
--- the starts stay the sources while the search grows
-pub starts-kept :
-    (A : Meaning) (distance distance' : List ℕ) → Extends distance distance' → ((s : ℕ) → (at distance s ≡ 1) ↔ T (A.start s)) → (s : ℕ) → (at distance' s ≡ 1) ↔ T (A.start s)
-starts-kept A distance distance' ext starts s = grind (arith, ext s, starts s)

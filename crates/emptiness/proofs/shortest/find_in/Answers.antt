@@ -1,7 +1,6 @@
 use Rattle.std.proofs.Common.{arith}
-use Rattle.distances.proofs.Visits.{searched_fits}
+use Rattle.distances.proofs.Visits.{searched_fits, sources_kept}
 use Rattle.distances.proofs.Nearest.{searched_traced}
-use Rattle.emptiness.proofs.Starting.{starts-kept}
 use Rattle.emptiness.proofs.Best.{tried-more, order_long, order_place, order_reached, best_shortest}
 use Rattle.emptiness.proofs.shortest.find_in.Goals as goal
 
@@ -15,7 +14,7 @@ pub improve-best-requires-clause-found : goal.improve-best-requires-clause-found
 improve-best-requires-clause-found g c =
     record {
       traced = searched_traced c.spread.ensures.searching;
-      starts = λ s. (starts-kept (g.A.Automaton.meaning c.args.automaton.now) _ _ c.spread.ensures.extends c.begin_at_starts.ensures.starts s).0;
+      starts = λ s. (sources_kept _ _ c.spread.ensures.extends _ c.begin_at_starts.ensures.starts s).0;
     }
 
 pub improve-best-requires-clause-reached : goal.improve-best-requires-clause-reached
@@ -32,5 +31,5 @@ loop-g-preserved g c =
 pub returns : goal.returns
 returns g c =
     let long = order_long c.spread.new.self c.spread.ensures.searching c.reached-g-items.ensures in
-    let starts = starts-kept (g.A.Automaton.meaning c.args.automaton.now) _ _ c.spread.ensures.extends c.begin_at_starts.ensures.starts in
+    let starts = sources_kept _ _ c.spread.ensures.extends _ c.begin_at_starts.ensures.starts in
     best_shortest c.spread.new.self c.spread.ensures.searching c.spread.ensures.all starts (omega arith) c.loop-g.invariant.tried
