@@ -12,6 +12,10 @@ abbrev pub Joining : Meaning → ℕ → ℕ → Option ℕ → Type 0
 Joining A s t (Some a) = T (A.step s a t)
 Joining A s t None = (a : ℕ) → T (A.step s a t) → ⊥
 
+-- the number is there, and at most m
+abbrev pub AtMost : Option ℕ → ℕ → Type 0
+AtMost number m = IsSomeAnd number (λ k. k ≤ m)
+
 -- each list of a search has a word for each state
 pub record Wide (A : Meaning) (s : Search) : Type 0 where
   pub distances : A.states ≤ length s.distance.now
@@ -66,10 +70,6 @@ pub record Round (A : Meaning) (g : ℕ) (s : Search) (t : ℕ) : Type 0 where
   pub source : (u : ℕ) → at s.distance.now u ≡ 1 → u ≡ g
   pub reached : 0 < at s.distance.now t
   pub closes : (a : ℕ) × T (A.step t a g)
-
--- the number is there, and at most m
-abbrev pub AtMost : Option ℕ → ℕ → Type 0
-AtMost number m = IsSomeAnd number (λ k. k ≤ m)
 
 -- the same of a shortest such path, which behind a stem of so many steps takes fewer than `best` steps
 pub record Return (A : Meaning) (g stem : ℕ) (best : Option ℕ) (s : Search) (t : ℕ) : Type 0 where

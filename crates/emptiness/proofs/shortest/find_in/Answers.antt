@@ -17,9 +17,6 @@ improve-best-requires-clause-found g c =
       starts = λ s. (sources_kept _ _ c.spread.ensures.extends _ c.begin_at_starts.ensures.starts s).0;
     }
 
-pub improve-best-requires-clause-reached : goal.improve-best-requires-clause-reached
-improve-best-requires-clause-reached g c = order_reached c.spread.new.self c.spread.ensures.searching c.reached-g-items.ensures c.loop-g.g-index c.loop-g-test.true
-
 pub loop-g-preserved : goal.loop-g-preserved
 loop-g-preserved g c =
     record {

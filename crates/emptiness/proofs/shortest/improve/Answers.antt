@@ -10,16 +10,6 @@ returns-in_default-clause-least g c good k path =
     let e : at c.args.found.now.distance.now c.args.g - 1 + suc k ≡ at c.args.found.now.distance.now c.args.g + k = omega arith in
     subst (AtMost c.args.best) e (c.in_default.ensures.returns k path)
 
-pub overflow_add-result : goal.overflow_add-result
-overflow_add-result g c =
-    let near = c.requires.found.traced.near c.args.g in
-    let around = c.in-Some.ensures.returns.round.traced.near c.in-Some.t in
-    let few = (g.A.Automaton.sound c.args.automaton.now).few in
-    omega arith
-
-pub returns-clause-no_worse : goal.returns-clause-no_worse
-returns-clause-no_worse g c m told = at_most-less c.args.best c.in-Some.ensures.returns.better told
-
 pub returns-clause-least : goal.returns-clause-least
 returns-clause-least g c _ k path =
     let reached = c.requires.reached in

@@ -2,9 +2,6 @@ use Rattle.std.proofs.Common.{arith, refl, inl}
 use Rattle.distances.proofs.Visits.{searched_fits, extends_on}
 use Rattle.emptiness.proofs.breadth.Search.spread.Goals as goal
 
-pub loop-self-init : goal.loop-self-init
-loop-self-init g c = record { searching = c.requires; extends = λ s. inl refl }
-
 pub loop-self-smaller : goal.loop-self-smaller
 loop-self-smaller g c = let fits = searched_fits c.loop-self.invariant.searching in omega arith
 

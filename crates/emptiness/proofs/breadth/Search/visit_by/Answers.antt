@@ -21,11 +21,3 @@ loop-t-preserved g c =
       | inr old ↦ rw old.1 (record { over = over_more kept.over gives; visited = rw place (old_visited sound kept.visited found old.0); head = kept.head })
     ]
 
-pub returns : goal.returns
-returns g c =
-    let kept = c.loop-t.invariant in
-    record {
-      visiting = rw kept.head kept.visited.visited;
-      head = kept.head;
-      all = over_all_seen _ kept.over kept.visited.seen c.in-None.ensures.steps;
-    }
