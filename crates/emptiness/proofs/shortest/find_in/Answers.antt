@@ -1,7 +1,7 @@
 use Rattle.std.proofs.Common.{arith}
 use Rattle.distances.proofs.Visits.{searched_fits, sources_kept}
 use Rattle.distances.proofs.Nearest.{searched_traced}
-use Rattle.emptiness.proofs.Best.{tried-more, order_long, order_place, order_reached, best_shortest}
+use Rattle.emptiness.proofs.Best.{tried-more, order_long, order_place, best_shortest}
 use Rattle.emptiness.proofs.shortest.find_in.Goals as goal
 
 pub reached-g-items-requires : goal.reached-g-items-requires

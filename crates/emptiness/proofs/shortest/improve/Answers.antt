@@ -1,7 +1,6 @@
 use Rattle.std.proofs.Common.{◌≡◌, suc, ◌+◌, ◌-◌, subst, arith}
 use Rattle.distances.specs.Trees.{at}
 use Rattle.emptiness.specs.Parts.{AtMost}
-use Rattle.emptiness.proofs.Options.{at_most-less}
 use Rattle.emptiness.proofs.shortest.improve.Goals as goal
 
 pub returns-in_default-clause-least : goal.returns-in_default-clause-least

@@ -1,7 +1,5 @@
-use Rattle.std.proofs.Common.{T, length, refl, sym, subst, arith}
-use Rattle.tables.proofs.Added.{zero_everywhere}
-use Rattle.distances.proofs.Nearest.{begun_searched}
-use Rattle.emptiness.proofs.Starting.{begun_cleared, starts_none, start_more, start_skip, starts_all}
+use Rattle.std.proofs.Common.{T, sym, subst, arith}
+use Rattle.emptiness.proofs.Starting.{start_more, start_skip}
 use Rattle.emptiness.proofs.breadth.Search.begin_at_starts.Goals.{then-is_start, else-is_start}
 use Rattle.emptiness.proofs.breadth.Search.begin_at_starts.Goals as goal
 
@@ -16,4 +14,3 @@ loop-s-preserved g c =
       | else-is_start w ↦
           rw w.self-is (record { starts = start_skip kept.starts (omega arith) (λ start. subst T (sym w.if-is_start.ensures.is) start); head = kept.head; parents = kept.parents })
     ]
-

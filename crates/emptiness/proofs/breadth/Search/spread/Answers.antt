@@ -1,4 +1,4 @@
-use Rattle.std.proofs.Common.{arith, refl, inl}
+use Rattle.std.proofs.Common.{arith}
 use Rattle.distances.proofs.Visits.{searched_fits, extends_on}
 use Rattle.emptiness.proofs.breadth.Search.spread.Goals as goal
 

@@ -1,5 +1,5 @@
 use Rattle.std.proofs.Common.{inl, inr}
-use Rattle.automaton.proofs.Walks.{over_lowest, over_above, over_more, over_all_seen}
+use Rattle.automaton.proofs.Walks.{over_lowest, over_above, over_more}
 use Rattle.distances.proofs.Visits.{queued-fits, successor_room, new_visited, old_visited}
 use Rattle.emptiness.proofs.breadth.Search.visit_by.Goals as goal
 
@@ -20,4 +20,3 @@ loop-t-preserved g c =
       | inl new ↦ rw new.1 (record { over = over_more kept.over gives; visited = rw place (new_visited sound kept.visited found new.0); head = kept.head })
       | inr old ↦ rw old.1 (record { over = over_more kept.over gives; visited = rw place (old_visited sound kept.visited found old.0); head = kept.head })
     ]
-
