@@ -52,18 +52,10 @@ impl<W: Watch> Watcher<W> {
         ensures accepts { IfOk result (λ x. WatchingAccepts W.leads W.holds x.signal.index x.signal.count) }
     {
         let signal = Signal::new(index, count)?;
-        Ok(Watcher::of(signal))
-    }
-
-    /// The automaton for a signal.
-    fn of(signal: Signal) -> Watcher<W>
-        ensures signal { result.signal ≡ signal }
-        ensures accepts { WatchingAccepts W.leads W.holds result.signal.index result.signal.count }
-    {
-        Watcher {
+        Ok(Watcher {
             signal,
             watch: PhantomData,
-        }
+        })
     }
 }
 

@@ -1,36 +1,28 @@
--- What a count keeps: it rises where a number passes, and stays where none does.
-use Rattle.std.proofs.Common.{◌≡◌, ℕ, zero, suc, ◌+◌, ◌<◌, ◌≤◌, Bool, true, false, cond, T, refl, ap, ⊎_elim, add-one, arith}
-use Rattle.std.proofs.lemmas.Bool.{cases_lt}
-use Rattle.census.specs.Counts.{tally, total}
+-- Counts are within bounds: a count of numbers within their number, and a sum within that many times the greatest part.
+use Rattle.std.proofs.Common.{ℕ, ◌*◌, ◌^◌, ◌≤◌, Bool, subst, pow_mono, mul-le-mul_right, arith}
+use Rattle.std.specs.List.{range_with_len}
+use Rattle.std.proofs.lemmas.List.Sums.{count_by-le-length, sum_by-le}
+use Rattle.std.proofs.lemmas.List.FromFn.{length-range_with_len}
+use Rattle.omega.specs.Automata.{Meaning, Sound, most_states}
+use Rattle.census.specs.Counts.{tally, total, steps_by, steps_from, steps_of}
 
-pub one_at_most : (b : Bool) → cond b 1 0 ≤ 1
-one_at_most true = omega arith
-one_at_most false = omega arith
+pub tally_within : (test : ℕ → Bool) (n : ℕ) → tally test n ≤ n
+tally_within test n = omega (arith, count_by-le-length test (range_with_len 0 n), length-range_with_len 0 n)
 
--- one number more
-pub tally_more : (test : ℕ → Bool) (n : ℕ) → tally test (n + 1) ≡ tally test n + cond (test n) 1 0
-tally_more test n = rw add-one refl
+pub steps_by_few : (A : Meaning) → Sound A → (s a : ℕ) → steps_by A s a ≤ most_states
+steps_by_few A sound s a = omega (arith, tally_within (A.step s a) A.states, sound.few)
 
-pub total_more : (count : ℕ → ℕ) (n : ℕ) → total count (n + 1) ≡ total count n + count n
-total_more count n = rw add-one refl
+pub total_within : (count : ℕ → ℕ) (most n : ℕ) → ((k : ℕ) → count k ≤ most) → total count n ≤ n * most
+total_within count most n few =
+    subst (λ l. total count n ≤ l * most) (length-range_with_len 0 n) (sum_by-le count most (range_with_len 0 n) (λ k d inside. few _))
 
-fails : (b : Bool) → (T b → ⊥) → ◌≡◌ {A = ℕ} (cond b 1 0) 0
-fails true none = absurd (none tt)
-fails false none = refl
+pub steps_from_few : (A : Meaning) → Sound A → (s : ℕ) → steps_from A s ≤ most_states * 16
+steps_from_few A sound s =
+    let letters : 2 ^ A.signals ≤ 16 = pow_mono {j = 4} sound.narrow in
+    let total = total_within (steps_by A s) most_states (2 ^ A.signals) (steps_by_few A sound s) in
+    omega (arith, total, mul-le-mul_right most_states letters)
 
-passes : (b : Bool) → T b → ◌≡◌ {A = ℕ} (cond b 1 0) 1
-passes true h = refl
-passes false h = absurd h
-
--- numbers of which none passes add nothing
-pub tally_none : (test : ℕ → Bool) (from to : ℕ) → from ≤ to → ((k : ℕ) → from ≤ k → k < to → T (test k) → ⊥) → tally test to ≡ tally test from
-tally_none test from zero low none = ap (tally test) (let e : zero ≡ from = omega arith in e)
-tally_none test from (suc to) low none =
-    ⊎_elim
-    (λ more. let rest = tally_none test from to (omega arith) (λ k a b. none k a (omega arith)) in let last = fails (test to) (none to (omega arith) (omega arith)) in omega (arith, rest, last))
-    (λ last. ap (tally test) (let e : suc to ≡ from = omega arith in e))
-    (cases_lt from (suc to))
-
--- the next number that passes adds one
-pub tally_next : (test : ℕ → Bool) (from t : ℕ) → from ≤ t → T (test t) → ((k : ℕ) → from ≤ k → k < t → T (test k) → ⊥) → tally test (t + 1) ≡ tally test from + 1
-tally_next test from t low here none = omega (arith, tally_more test t, tally_none test from t low none, passes (test t) here)
+pub steps_of_few : (A : Meaning) → Sound A → steps_of A ≤ most_states * (most_states * 16)
+steps_of_few A sound =
+    let total = total_within (steps_from A) (most_states * 16) A.states (steps_from_few A sound) in
+    omega (arith, total, mul-le-mul_right (most_states * 16) sound.few)

@@ -1,17 +1,16 @@
 -- Promise. How many states, signals, starts, good states and steps an automaton has.
-use Rattle.std.specs.Prelude.{◌≡◌, ℕ, zero, suc, ◌+◌, ◌^◌, Bool, cond}
+use Rattle.std.specs.Prelude.{◌≡◌, ℕ, ◌^◌, Bool}
+use Rattle.std.specs.List.{count_by, sum_by, range_with_len}
 use Rattle.omega.specs.Automata.{Meaning}
 use Rattle.census.specs.declared.census.Census.{Census}
 
 -- how many numbers below n pass the test
 abbrev pub tally : (ℕ → Bool) → ℕ → ℕ
-tally test zero = 0
-tally test (suc n) = tally test n + cond (test n) 1 0
+tally test n = count_by test (range_with_len 0 n)
 
 -- what the numbers below n count together
 abbrev pub total : (ℕ → ℕ) → ℕ → ℕ
-total count zero = 0
-total count (suc n) = total count n + count n
+total count n = sum_by count (range_with_len 0 n)
 
 -- the steps out of a state by a letter, out of a state, and all steps
 abbrev pub steps_by : Meaning → ℕ → ℕ → ℕ

@@ -1,7 +1,7 @@
 //! The counts of an automaton.
 
 /// How many states, signals, starts, good states and steps there are.
-#[derive(Clone, Copy)]
+#[derive(Clone, Copy, PartialEq, Eq, Debug)]
 pub struct Census {
     pub states: u32,
     pub signals: u32,

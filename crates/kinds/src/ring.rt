@@ -3,13 +3,7 @@ ghost use Rattle.std.specs.Prelude.{◌≡◌, ◌<◌, ◌≤◌, MatchOption};
 ghost use Rattle.omega.specs.Automata.{most_states, most_signals};
 ghost use Rattle.kinds.specs.Rings.{behind, ring, ring_sound};
 
-use automaton::Automaton;
-
-/// The most stations of a ring.
-const MOST_STATIONS: u32 = 65_536;
-
-/// The most signals of a ring.
-const MOST_SIGNALS: u32 = 4;
+use automaton::{Automaton, MOST_SIGNALS, MOST_STATES};
 
 /// Stations in a ring: every letter leads on to the next one, the first is the start, and the last is good.
 #[derive(Clone, Copy)]
@@ -25,10 +19,11 @@ impl Ring {
     pub fn new(stations: u32, signals: u32) -> Option<Ring>
         ensures { MatchOption result (stations ≤ most_states → signals ≤ most_signals → ⊥) (λ x. (x.stations ≡ stations) × (x.signals ≡ signals)) }
     {
-        if stations <= MOST_STATIONS && signals <= MOST_SIGNALS {
-            return Some(Ring { stations, signals });
+        if stations <= MOST_STATES && signals <= MOST_SIGNALS {
+            Some(Ring { stations, signals })
+        } else {
+            None
         }
-        None
     }
 
     /// The station behind `s`, which is one.
@@ -67,6 +62,6 @@ impl Automaton for Ring {
             return None;
         }
         let t = self.behind(s);
-        if f <= t { Some(t) } else { None }
+        (f <= t).then_some(t)
     }
 }

@@ -18,25 +18,16 @@ fn nothing_past<A: Automaton>(rt: &impl Abort, x: &A) {
 }
 
 fn ring(stations: u32, signals: u32) -> Result<Ring, Fail> {
-    match Ring::new(stations, signals) {
-        Some(ring) => Ok(ring),
-        None => Err(Fail::new("no ring")),
-    }
+    Ring::new(stations, signals).ok_or_else(|| Fail::new("no ring"))
 }
 
 fn draft(states: u32, signals: u32) -> Result<Draft, Fail> {
-    match Draft::new(states, signals) {
-        Some(draft) => Ok(draft),
-        None => Err(Fail::new("no draft")),
-    }
+    Draft::new(states, signals).ok_or_else(|| Fail::new("no draft"))
 }
 
 /// Which refusal, if any, keeps two parts from being paired.
 fn unpaired<A: Automaton, B: Automaton>(a: &A, b: &B) -> Option<PartsRefusal> {
-    match Pair::new(a, b) {
-        Ok(_) => None,
-        Err(refusal) => Some(refusal),
-    }
+    Pair::new(a, b).err()
 }
 
 #[test]
