@@ -1,10 +1,21 @@
 //! Counting by questions.
 ghost use Rattle.std.specs.Prelude.{◌≡◌, ◌*◌, ◌≤◌};
 ghost use Rattle.omega.specs.Automata.{most_states};
-ghost use Rattle.census.specs.Counts.{steps_by, steps_from, steps_of, Counted};
+ghost use Rattle.census.specs.Counts.{tally, steps_by, steps_from, steps_of, Counted};
 
 use crate::census::Census;
 use automaton::{Automaton, letters, successors};
+
+/// How many starts and how many good states there are.
+fn count_states<A: Automaton>(automaton: &A) -> (u32, u32)
+    ensures starts { result.0 ≡ tally (A.Automaton.meaning automaton.now).start (A.Automaton.meaning automaton.now).states }
+    ensures goods { result.1 ≡ tally (A.Automaton.meaning automaton.now).good (A.Automaton.meaning automaton.now).states }
+{
+    let states = automaton.states();
+    let starts = (0..states).filter(|s| automaton.is_start(*s)).count();
+    let goods = (0..states).filter(|s| automaton.is_good(*s)).count();
+    (starts as u32, goods as u32)
+}
 
 /// How many steps lead out of a state by a letter.
 fn count_by<A: Automaton>(automaton: &A, s: u32, letter: u32) -> u32
@@ -37,12 +48,12 @@ fn count_steps<A: Automaton>(automaton: &A) -> u64
 pub fn take_census<A: Automaton>(automaton: &A) -> Census
     ensures { Counted (A.Automaton.meaning automaton.now) result }
 {
-    let states = automaton.states();
+    let (starts, goods) = count_states(automaton);
     Census {
-        states,
+        states: automaton.states(),
         signals: automaton.signals(),
-        starts: (0..states).filter(|s| automaton.is_start(*s)).count() as u32,
-        goods: (0..states).filter(|s| automaton.is_good(*s)).count() as u32,
+        starts,
+        goods,
         steps: count_steps(automaton),
     }
 }
