@@ -49,15 +49,6 @@ impl From<Mark> for u8 {
     }
 }
 
-impl Mark {
-    /// The byte of the mark.
-    pub fn sign(self) -> u8
-        ensures { result ≡ sign self }
-    {
-        u8::from(self)
-    }
-}
-
 impl TryFrom<u8> for Mark {
     type Error = Refusal;
 

@@ -76,15 +76,6 @@ impl Refusal {
     }
 }
 
-impl Layer {
-    /// The number of the case.
-    pub fn number(self) -> u8
-        ensures { result ≡ layer_number self }
-    {
-        u8::from(self)
-    }
-}
-
 impl From<Refusal> for u8 {
     ghost from_gives = { λ refusal n. n ≡ refusal_number refusal };
 

@@ -101,3 +101,13 @@ fn texts_have_a_longest(rt: HostRuntime) {
     assert_eq!(rt; count(&bytes[0..LONGEST_TEXT]), Ok(0));
     assert_eq!(rt; count(&bytes), refused(Refusal::TooLong, LONGEST_TEXT));
 }
+
+#[test]
+fn cases_have_numbers_and_bytes(rt: HostRuntime) {
+    assert_eq!(rt; u8::from(Refusal::BadByte), 11);
+    assert_eq!(rt; u8::from(Layer::Meaning), 3);
+    assert_eq!(rt; u8::from(Mark::OpenParen), b'(');
+    assert_eq!(rt; Mark::try_from(b'('), Ok(Mark::OpenParen));
+    assert_eq!(rt; Mark::try_from(b'a'), Err(Refusal::BadByte));
+    assert_eq!(rt; refused(Refusal::BadByte, 7), Err(Refusal::BadByte.at(7)));
+}
