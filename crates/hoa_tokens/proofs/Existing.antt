@@ -1,46 +1,24 @@
 -- Every text has a cut: from each position something is found, and what is left of the text gets shorter.
-use Rattle.std.proofs.Common.{◌≡◌, ℕ, zero, suc, ◌+◌, ◌-◌, ◌<◌, ◌≤◌, Bool, true, false, ◌⊎◌, List, [], ◌∷◌, length, get_or, sym, refl, ap, ◌∙◌, subst, inl, inr, ⊎_elim, arith}
+use Rattle.std.proofs.Common.{◌≡◌, ℕ, zero, suc, ◌+◌, ◌<◌, ◌≤◌, Bool, true, false, ◌⊎◌, List, [], ◌∷◌, length, get_or, sym, refl, ap, ◌∙◌, inl, inr, ⊎_elim, arith}
 use Rattle.std.proofs.lemmas.List.{get_or_past}
 use Rattle.std.proofs.lemmas.Bool.{cases_Bool, cases_lt, cases_eq}
 use Rattle.hoa_tokens.specs.declared.class.Class.TheVariants as class
 use Rattle.hoa_tokens.specs.declared.token.Mark.{Mark}
 use Rattle.hoa_tokens.specs.declared.token.Mark.TheVariants.{Or}
 use Rattle.hoa_tokens.specs.Bytes.{blank, letter, digit, nameable, quote, colon, member, sign, NoMark}
-use Rattle.hoa_tokens.specs.Items.{Each, Run, Kind}
+use Rattle.hoa_tokens.specs.Items.{Run, Kind}
 use Rattle.hoa_tokens.specs.Scanning.{Found, token, fault, word, number, name, mark, end, item_found, Stands, Scanned, Ahead}
 use Rattle.hoa_tokens.specs.Cuts.{Cut}
 use Rattle.hoa_tokens.specs.Steps.{WithColon, closes}
+use Rattle.hoa_tokens.proofs.Runs.{run_by_prefix}
 use Rattle.hoa_tokens.proofs.FirstBytes.{kind_at, kind_at_lem}
 use Rattle.hoa_tokens.proofs.Longest.{word_longest, digits_longest, mark_longest, none_begins}
 use Rattle.hoa_tokens.proofs.Standing.{name_stands, name_refused}
 use Rattle.hoa_tokens.proofs.Once.{scanned_ahead}
 
-module _ (test : ℕ → Bool) (text : List ℕ) where
-  -- a byte that passes, before others that do
-  one_more : (from to : ℕ) → test (get_or text from 0) ≡ true → Each test text (from + 1) to → Each test text from to
-  one_more from to first each i low high =
-      ⊎_elim
-      (λ here. let same : from ≡ i = omega arith in subst (λ j. test (get_or text j 0) ≡ true) same first)
-      (λ behind. each i behind high)
-      (cases_lt i (from + 1))
-
-  no_run : (from : ℕ) → from ≤ length text → test (get_or text from 0) ≡ false → Run test text from from
-  no_run from inside stops = record { forward = omega arith; within = inside; each = λ i low high. absurd (omega arith); stops = stops }
-
-  -- a run from a position, with so many bytes left
-  run_left : test 0 ≡ false → (left from : ℕ) → from + left ≡ length text → (to : ℕ) × Run test text from to
-  run_left none zero from all = (from, no_run from (omega arith) (ap test (get_or_past text from 0 (omega arith)) ∙ none))
-  run_left none (suc left) from all =
-      ⊎_elim
-      (λ first.
-      let r = run_left none left (from + 1) (omega arith) in
-      (r.0, record { forward = omega (arith, r.1.forward); within = r.1.within; each = one_more from r.0 first r.1.each; stops = r.1.stops }))
-      (λ stops. (from, no_run from (omega arith) stops))
-      (cases_Bool (test (get_or text from 0)))
-
-  -- a class that leaves out 0 has a run from each position
-  run_exists : test 0 ≡ false → (from : ℕ) → from ≤ length text → (to : ℕ) × Run test text from to
-  run_exists none from inside = run_left none (length text - from) from (omega arith)
+-- a class that leaves out 0 has a run from each position
+run_exists : (test : ℕ → Bool) → test 0 ≡ false → (text : List ℕ) (from : ℕ) → from ≤ length text → (to : ℕ) × Run test text from to
+run_exists test none text from inside = (_, run_by_prefix test none text from inside)
 
 colon_exists : (text : List ℕ) (stem : ℕ) → (next : ℕ) × WithColon text stem next
 colon_exists text stem =
@@ -74,18 +52,18 @@ module _ (text : List ℕ) (place : ℕ) (inside : place < length text) where
 
   word_stands : letter b ≡ true → Something
   word_stands first =
-      let stem = run_exists (member class.Word) text refl place (omega arith) in
+      let stem = run_exists (member class.Word) refl text place (omega arith) in
       let next = colon_exists text stem.0 in
       (item_found Kind.word text place next.0, Stands.item Kind.word next.0 (word_longest text place stem.0 next.0 first stem.1 next.1))
 
   digits_stand : digit b ≡ true → Something
   digits_stand first =
-      let run = run_exists digit text refl place (omega arith) in
+      let run = run_exists digit refl text place (omega arith) in
       (item_found Kind.digits text place run.0, Stands.item Kind.digits run.0 (digits_longest text place run.0 first run.1))
 
   quote_stands : b ≡ quote → Something
   quote_stands first =
-      let run = run_exists nameable text refl (place + 1) (omega arith) in
+      let run = run_exists nameable refl text (place + 1) (omega arith) in
       ⊎_elim
       (λ closed. (_, name_stands text place run.0 inside first run.1 closed))
       (λ shut. (_, name_refused text place run.0 inside first run.1 shut))
@@ -109,7 +87,7 @@ stands_exists text place inside = ⊎_elim (byte_stands text place) (λ past. (t
 
 scan_exists : (text : List ℕ) (from : ℕ) → from ≤ length text → (x : Found) × Scanned text from x
 scan_exists text from inside =
-    let run = run_exists blank text refl from inside in
+    let run = run_exists blank refl text from inside in
     let s = stands_exists text run.0 run.1.within in
     (s.0, record { place = run.0; blanks = run.1; stands = s.1 })
 

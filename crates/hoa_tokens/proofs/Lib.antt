@@ -1,4 +1,5 @@
 pub mod FirstBytes
+pub mod Runs
 pub mod Longest
 pub mod Values
 pub mod Standing
