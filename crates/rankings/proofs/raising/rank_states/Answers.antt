@@ -1,12 +1,7 @@
-use Rattle.std.proofs.Common.{subst, arith}
+use Rattle.std.proofs.Common.{subst}
 use Rattle.relaxing.specs.Rounds.{AllLow, TooHigh}
-use Rattle.relaxing.proofs.Settled.{first-forced, too_high_lasso}
+use Rattle.relaxing.proofs.Settled.{too_high_lasso}
 use Rattle.rankings.proofs.raising.rank_states.Goals as goal
-
-pub settle-requires : goal.settle-requires
-settle-requires g c =
-    let A = g.A.Automaton.meaning c.args.automaton.now in
-    first-forced A (g.A.Automaton.sound c.args.automaton.now) c.place_starts.new.ranks (omega arith) c.place_starts.ensures
 
 pub returns : goal.returns
 returns g c =
