@@ -1,5 +1,5 @@
--- A tree begins with its sources, grows by a new successor of the head at the queue's end, and passes on to the next state of the queue.
-use Rattle.std.proofs.Common.{◌≡◌, ℕ, ◌+◌, ◌<◌, ◌≤◌, T, ◌≢◌, ◌⊎◌, sym, ap, ◌∙◌, subst, arith}
+-- A tree begins with its sources, and grows by a new successor of the head at the queue's end.
+use Rattle.std.proofs.Common.{◌≡◌, ℕ, ◌+◌, ◌<◌, ◌≤◌, T, ◌≢◌, ◌⊎◌, sym, ap, ◌∙◌, arith}
 use native.Mathlib.Decide.{ℕ_discrete}
 use Rattle.omega.specs.Automata.{Meaning}
 use Rattle.distances.specs.Trees.{Tree}
@@ -87,30 +87,6 @@ module _ (A : Meaning) (d p q d⁺ p⁺ q⁺ : ℕ → ℕ) (head end u : ℕ) (
           near = λ i b. grind (arith, queued_cases i b, tree.near i, tree.near head some, farther);
           done = λ i c t b st. grind (arith, tree.done i c t b, q-other i, st, reached_kept t, queued_kept i);
         }
-
--- all successors of the head are reached
-pub tree-passes :
-    (A : Meaning) (d p q : ℕ → ℕ) (head end : ℕ) → Tree A d p q head end → head < end → ((a t : ℕ) → T (A.step (q head) a t) → 0 < d t) →
-    Tree A d p q (head + 1) end
-tree-passes A d p q head end tree some all =
-    record {
-      states = tree.states;
-      parents = tree.parents;
-      queued = tree.queued;
-      placed = tree.placed;
-      once = tree.once;
-      rising = tree.rising;
-      span = λ i b more. grind (arith, tree.span i b some, tree.rising head (head + 1));
-      near = tree.near;
-      done = λ i a t b step.
-          elim (ℕ_discrete i head) [
-            | yes e ↦
-                (let seen = all a t (subst (λ x. T (A.step (q x) a t)) e step) in
-                let (j, inside, at) = tree.placed t seen in
-                grind (arith, seen, tree.span j inside some, at, e))
-            | no n ↦ tree.done i a t (omega arith) step
-          ];
-    }
 
 -- nothing is reached, and there is no source
 pub tree_empty : (A : Meaning) (d p q : ℕ → ℕ) → ((s : ℕ) → d s ≡ 0) → Tree A d p q 0 0

@@ -6,7 +6,7 @@ use Rattle.omega.specs.Automata.{Meaning, Sound, Lowest}
 use Rattle.omega.proofs.Successors.{lowest_seen_more}
 use Rattle.distances.specs.Trees.{at, Searched, Extends, Visited, Room}
 use Rattle.distances.proofs.Queues.{tree_fits, new_fits}
-use Rattle.distances.proofs.Trees.{tree_grows, tree-passes}
+use Rattle.distances.proofs.Trees.{tree_grows}
 
 pub searched_fits : {A : Meaning} {distance parent queue : List ℕ} {head end : ℕ} → Searched A distance parent queue head end → end ≤ A.states
 searched_fits {A} {distance} {parent} {queue} {head} {end} found = tree_fits A (at distance) (at parent) (at queue) head end found.tree
@@ -162,26 +162,4 @@ module _ {A : Meaning} {distance queue distance' parent' queue' : List ℕ} {hea
               | yes e ↦ new t (rw (V.visited.same head V.some, ← e) step)
               | no n ↦ extends_seen distance' distance'' W.extends t (V.seen x t (omega arith) step)
             ];
-      }
-
-  -- all letters are visited by: the head is done with
-  pub head_visited : ((x t : ℕ) → T (A.step (at queue head) x t) → x < a) → Visited A distance queue distance' parent' queue' (head + 1) end end'
-  head_visited all =
-      let found = V.visited.searched in
-      let grows = V.visited.grows in
-      let some = V.some in
-      record {
-        searched =
-            record {
-              behind = omega arith;
-              distances = found.distances;
-              parents = found.parents;
-              places = found.places;
-              tree =
-                  tree-passes A (at distance') (at parent') (at queue') head end' found.tree (omega arith)
-                  (λ x t step. let step' = rw (V.visited.same head V.some) at step in V.seen x t (all x t step') step');
-            };
-        grows = grows;
-        extends = V.visited.extends;
-        same = V.visited.same;
       }

@@ -50,9 +50,6 @@ module _ {A : Meaning} (s : Search) (search : Searching A s) {order : List ℕ} 
   pub order_place : (i : ℕ) → i < length order → at order i ≡ at s.queue.now i
   order_place i b = let long = order_long in ap (λ words. at words i) is ∙ get_or-take s.end s.queue.now i 0 (omega arith)
 
-  pub order_reached : (i : ℕ) → i < length order → 0 < at s.distance.now (at order i)
-  order_reached i b = let long = order_long in rw (order_place i b) (search.tree.queued i (omega arith))
-
 module _ {A : Meaning} (s : Search) (search : Searching A s) (done : s.head ≡ s.end) (starts : (u : ℕ) → (at s.distance.now u ≡ 1) ↔ T (A.start u))
     {strip : List ℕ} {best : Option ℕ} {i : ℕ} (all : s.end ≤ i) (tried : Tried A s.distance.now s.queue.now strip best i) where
   no_shorter : (m q : ℕ) (state letter : ℕ → ℕ) → Lasso A m q state letter → AtMost best (m + q)

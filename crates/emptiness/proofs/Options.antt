@@ -7,10 +7,6 @@ pub at_most-more : {m n : ℕ} (number : Option ℕ) → m ≤ n → AtMost numb
 at_most-more None up none = none
 at_most-more (Some k) up low = omega arith
 
-pub at_most-less : {m n : ℕ} (number : Option ℕ) → (AtMost number n → ⊥) → AtMost number m → n ≤ m
-at_most-less None more none = absurd none
-at_most-less (Some k) more low = omega arith
-
 -- the first number below n that is a letter from s to t, where all letters are below n
 pub first_joining :
     (A : Meaning) (s t n : ℕ) (letter : Option ℕ) (Before : ℕ → Type 0) → ((a : ℕ) → T (A.step s a t) → a < n) →

@@ -2,7 +2,7 @@
 use Rattle.std.proofs.Common.{◌≡◌, ℕ, ◌+◌, ◌<◌, ◌≤◌, T, ◌↔◌, List, length, set, replicate, arith}
 use Rattle.std.proofs.lemmas.Grind.{common_steps}
 use lib.ListN.{length-replicate}
-use Rattle.omega.specs.Automata.{Meaning, Sound}
+use Rattle.omega.specs.Automata.{Meaning}
 use Rattle.tables.proofs.Added.{zero_everywhere}
 use Rattle.distances.specs.Trees.{at, Begun}
 use Rattle.distances.proofs.Nearest.{begun_empty, begun_more, begun_searched}
@@ -27,9 +27,6 @@ pub record StartsBelow (A : Meaning) (distance queue : List ℕ) (end k : ℕ) :
   pub begun : Begun A distance queue end
   pub sources : (s : ℕ) → (at distance s ≡ 1) ↔ (T (A.start s) × (s < k))
 
-pub starts_none : {A : Meaning} {distance queue : List ℕ} → Begun A distance queue 0 → ((s : ℕ) → at distance s ≡ 0) → StartsBelow A distance queue 0 0
-starts_none begun none = record { few = omega arith; begun = begun; sources = λ s. grind (arith, none s) }
-
 module _ {A : Meaning} {distance queue : List ℕ} {end k : ℕ} (starts : StartsBelow A distance queue end k) (below : k < A.states) where
   new_start : at distance k ≡ 0
   new_start = grind (arith, starts.sources k, starts.begun.sources k)
@@ -48,7 +45,3 @@ module _ {A : Meaning} {distance queue : List ℕ} {end k : ℕ} (starts : Start
   start_skip none =
       let few = starts.few in
       record { few = omega arith; begun = starts.begun; sources = λ s. grind (arith, starts.sources s) }
-
-pub starts_all :
-    {A : Meaning} → Sound A → {distance queue : List ℕ} {end k : ℕ} → A.states ≤ k → StartsBelow A distance queue end k → (s : ℕ) → (at distance s ≡ 1) ↔ T (A.start s)
-starts_all sound all starts s = grind (arith, starts.sources s, sound.starts s)
