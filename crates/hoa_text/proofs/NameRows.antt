@@ -1,18 +1,16 @@
 -- The names that an array holds, one by one.
-use Rattle.std.proofs.Common.{◌≡◌, ℕ, zero, suc, ◌<◌, ◌≤◌, Bool, true, List, [], ◌∷◌, ◌++◌, length, take, Decides, sym, refl, ap, ◌∙◌, inl, inr, subst, ⊎_elim, rules, arith, Bor, Result, Ok, Err, is_ok, MatchResult}
-use Rattle.std.specs.Cmp.Lexicographic.{pointwise}
+use Rattle.std.proofs.Common.{◌≡◌, ℕ, zero, suc, ◌<◌, ◌≤◌, Bool, true, List, [], ◌∷◌, ◌++◌, length, take, IsTrue, ◌↔◌, sym, refl, ap, ◌∙◌, inl, inr, subst, ⊎_elim, rules, arith, Bor, Result, Ok, Err, is_ok, MatchResult}
 use Rattle.std.specs.Str.{bytes_eq}
 use Rattle.std.proofs.Math.Seq.{take-suc}
 use Rattle.std.proofs.lemmas.Bool.{cases_eq, true≢false}
-use Rattle.std.proofs.lemmas.List.{length-take}
 use Rattle.std.proofs.lemmas.Slice.Eq.{bytes_eq-Decides}
 use Rattle.hoa_tokens.specs.declared.fault.Fault.{Fault}
 use Rattle.hoa_grammar.specs.Rows.{Row, none, more, size}
 use Rattle.hoa_document.specs.declared.names.Names.{Names}
 use Rattle.hoa_document.specs.Denoting.{TextNames, TextRefused}
 use Rattle.hoa_document.specs.Naming.{name_at, first_names, row_of}
-use Rattle.hoa_document.proofs.HeldNames.{size_first}
-use Rattle.hoa_text.specs.Naming.{IsName}
+use Rattle.hoa_document.proofs.HeldNames.{size_first, all_held}
+use Rattle.hoa_text.specs.Naming.{IsName, same_names}
 
 -- each of the first m names is the one at its place
 pub name_at_lem : (held : List (Bor (List ℕ))) (i m : ℕ) → i < m → IsName i (name_at held i) (first_names held m)
@@ -38,9 +36,6 @@ first_behind held zero inside = refl
 first_behind held (suc m) inside =
     rw (take-suc held m (record { ref_ptr = (0, 0); now = [] }) (omega arith), behind-append) (ap (λ ws. more ws (name_at held m)) (first_behind held m (omega arith)))
 
-abbrev same_names : List (Bor (List ℕ)) → List (Bor (List ℕ)) → Bool
-same_names = pointwise (λ v w. bytes_eq v.now w.now)
-
 -- rows are alike where the lists behind them are
 behind_alike : (ws : Row (List ℕ)) (us vs : List (Bor (List ℕ))) → same_names us vs ≡ true → behind ws us ≡ behind ws vs
 behind_alike ws [] [] e = refl
@@ -63,13 +58,15 @@ alike_behind ws xs (u ∷ us) (v ∷ vs) n e =
     (before, rw ((bytes_eq-Decides u.now v.now).1 last) rest.1)
 
 -- so two lists of names are alike exactly where their rows are
-pub names_alike : (a b : Names) → a.count ≤ length a.list → b.count ≤ length b.list → Decides (same_names (take a.count a.list) (take b.count b.list)) (row_of a ≡ row_of b)
-names_alike a b inside within = (
-  λ same. first_behind a.list a.count inside ∙ behind_alike none (take a.count a.list) (take b.count b.list) same ∙ sym (first_behind b.list b.count within),
-  λ same.
-      let many : a.count ≡ b.count = sym (size_first a.list a.count) ∙ ap size same ∙ size_first b.list b.count in
-      (alike_behind none none (take a.count a.list) (take b.count b.list) (omega (arith, length-take a.count a.list, length-take b.count b.list)) (sym (first_behind a.list a.count inside) ∙ same ∙ first_behind b.list b.count within)).1,
-)
+pub names_alike : (a b : Names) (xs ys : List (Bor (List ℕ))) (r : Bool) → r ≡ same_names xs ys → xs ≡ take a.count a.list → length xs ≡ a.count → ys ≡ take b.count b.list → length ys ≡ b.count → IsTrue r ↔ (row_of a ≡ row_of b)
+names_alike a b xs ys r is part long other wide =
+    let left : row_of a ≡ behind none xs = rw part (first_behind a.list a.count (all_held a part long)) in
+    let right : row_of b ≡ behind none ys = rw other (first_behind b.list b.count (all_held b other wide)) in (
+      λ e. left ∙ behind_alike none xs ys (sym is ∙ e) ∙ sym right,
+      λ same.
+          let many : a.count ≡ b.count = sym (size_first a.list a.count) ∙ ap size same ∙ size_first b.list b.count in
+          is ∙ (alike_behind none none xs ys (long ∙ many ∙ sym wide) (sym left ∙ same ∙ right)).1,
+    )
 
 -- names that were read, past the map of a fault
 pub names_read : (E : Type 0) (text : List ℕ) (x : Names) (r : Result Names Fault) (Q : Fault → Type 0) → MatchResult r (λ v. ◌≡◌ {A = Result Names E} (Ok x) (Ok v)) Q → true ≡ is_ok r → MatchResult r (TextNames text) (TextRefused text) → TextNames text x

@@ -1,5 +1,8 @@
 -- Promise. The names of a text's signals, and when two texts name theirs alike.
-use Rattle.std.specs.Prelude.{◌≡◌, ℕ, ◌≤◌, ◌⊎◌, List, ◌≢◌}
+use Rattle.std.specs.Prelude.{◌≡◌, ℕ, ◌≤◌, Bool, ◌⊎◌, List, ◌≢◌}
+use Rattle.std.specs.Borrow.{Bor}
+use Rattle.std.specs.Cmp.Lexicographic.{pointwise}
+use Rattle.std.specs.Str.{bytes_eq}
 use Rattle.automaton.specs.declared.refusal.PartsRefusal.{PartsRefusal}
 use Rattle.automaton.specs.declared.refusal.PartsRefusal.TheVariants.{SignalsDiffer, NamesDiffer, NoSuchSignal}
 use Rattle.hoa_tokens.specs.Items.{span}
@@ -37,6 +40,10 @@ NoName text i (named.Parts e) = (e ≡ NoSuchSignal) × LacksSignal text i
 -- the text writes a document that keeps every limit
 abbrev pub Readable : List ℕ → Type 0
 Readable text = (d : Document) × TextWrites text d
+
+-- two lists hold the same names
+abbrev pub same_names : List (Bor (List ℕ)) → List (Bor (List ℕ)) → Bool
+same_names = pointwise (λ v w. bytes_eq v.now w.now)
 
 -- two texts name their signals alike, byte for byte and in order
 abbrev pub NamesAlike : List ℕ → List ℕ → Type 0

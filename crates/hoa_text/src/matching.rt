@@ -1,17 +1,16 @@
 //! Whether two texts name their signals alike.
-ghost use Rattle.std.specs.Prelude.{◌≡◌, ◌↔◌, IsTrue, MatchResult};
-ghost use Rattle.hoa_document.specs.Naming.{row_of};
-ghost use Rattle.hoa_text.specs.Naming.{NamesAlike, Unmatched};
+ghost use Rattle.std.specs.Prelude.{◌≡◌, MatchResult};
+ghost use Rattle.hoa_text.specs.Naming.{same_names, NamesAlike, Unmatched};
 
 use crate::refusal::MatchRefusal;
 use automaton::PartsRefusal;
-use hoa_document::{Names, read_names};
+use hoa_document::read_names;
 
 /// Whether two lists of names are alike.
-fn alike(first: &Names<'_>, second: &Names<'_>) -> bool
-    ensures { IsTrue result ↔ (row_of first.now ≡ row_of second.now) }
+fn alike(first: &[&[u8]], second: &[&[u8]]) -> bool
+    ensures { result ≡ same_names first.now second.now }
 {
-    first.as_slice() == second.as_slice()
+    first == second
 }
 
 /// Accepts two texts whose names are alike, byte for byte and in order.
@@ -25,7 +24,7 @@ pub fn match_names(first: &[u8], second: &[u8]) -> Result<(), MatchRefusal>
     if left.count != right.count {
         return Err(MatchRefusal::Parts(PartsRefusal::SignalsDiffer));
     }
-    if !alike(&left, &right) {
+    if !alike(left.as_slice(), right.as_slice()) {
         return Err(MatchRefusal::Parts(PartsRefusal::NamesDiffer));
     }
     Ok(())

@@ -13,8 +13,8 @@ fn fault(bytes: &[u8]) -> (u8, usize) {
     let mut table = Table::blank(&mut cells);
     match read(&mut table, bytes) {
         Ok(()) => (0, 0),
-        Err(ReadRefusal::Lender(refusal)) => (refusal.number(), 0),
-        Err(ReadRefusal::Text(fault)) => (fault.refusal.number(), fault.place),
+        Err(ReadRefusal::Lender(refusal)) => (u8::from(refusal), 0),
+        Err(ReadRefusal::Text(fault)) => (u8::from(fault.refusal), fault.place),
     }
 }
 
@@ -51,11 +51,11 @@ fn faults_come_first_to_last(rt: HostRuntime) {
 fn mismatch(first: &[u8], second: &[u8]) -> (u8, usize) {
     match match_names(first, second) {
         Ok(()) => (0, 0),
-        Err(MatchRefusal::First(fault)) => (fault.refusal.number(), fault.place),
+        Err(MatchRefusal::First(fault)) => (u8::from(fault.refusal), fault.place),
         Err(MatchRefusal::Second(fault)) => {
-            (fault.refusal.number(), fault.place.saturating_add(1_000))
+            (u8::from(fault.refusal), fault.place.saturating_add(1_000))
         }
-        Err(MatchRefusal::Parts(refusal)) => (refusal.number(), 0),
+        Err(MatchRefusal::Parts(refusal)) => (u8::from(refusal), 0),
     }
 }
 
@@ -63,8 +63,8 @@ fn mismatch(first: &[u8], second: &[u8]) -> (u8, usize) {
 fn named(bytes: &[u8], i: u32) -> (usize, u8) {
     match name(bytes, i) {
         Ok(w) => (w.len(), w.first().copied().unwrap_or(0)),
-        Err(NameRefusal::Text(fault)) => (0, fault.refusal.number()),
-        Err(NameRefusal::Parts(refusal)) => (0, refusal.number()),
+        Err(NameRefusal::Text(fault)) => (0, u8::from(fault.refusal)),
+        Err(NameRefusal::Parts(refusal)) => (0, u8::from(refusal)),
     }
 }
 
