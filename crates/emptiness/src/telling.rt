@@ -30,7 +30,7 @@ fn close(strip: &mut [u32], m: u32, q: u32, g: u32, letter: u32)
     let steps = m as usize + q as usize;
     strip[2 + 2 * steps] = letter;
     strip[3 + 2 * steps] = g;
-    strip[0] = Verdict::Lasso.number();
+    strip[0] = u32::from(Verdict::Lasso);
     strip[1] = m;
     strip[2] = q;
 }
