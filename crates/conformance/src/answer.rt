@@ -17,7 +17,7 @@ fn refusal_text(heap: Global, refusal: ReadRefusal) -> Result<Vec<u8>, AllocErro
 {
     let text = match refusal {
         ReadRefusal::Lender(lender) => {
-            let number = lender.number();
+            let number = u8::from(lender);
             format!(in heap; "refused {number}")?
         }
         ReadRefusal::Text(fault) => {

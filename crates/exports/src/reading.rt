@@ -3,10 +3,7 @@ ghost use Rattle.std.specs.Prelude.{◌≡◌};
 ghost use Rattle.exports.specs.Numbered.{answer_number, Numbered};
 
 use hoa_text::{ReadRefusal, read};
-use tables::Table;
-
-/// The cells of the largest table.
-const TABLE_CELLS: usize = 4_096;
+use tables::{TABLE_CELLS, Table};
 
 /// The number of an answer: 0 where the text was read, else that of the refusal.
 fn number_of(answer: Result<(), ReadRefusal>) -> u32
@@ -14,8 +11,8 @@ fn number_of(answer: Result<(), ReadRefusal>) -> u32
 {
     match answer {
         Ok(()) => 0,
-        Err(ReadRefusal::Lender(lender)) => u32::from(lender.number()),
-        Err(ReadRefusal::Text(fault)) => u32::from(fault.refusal.number()),
+        Err(ReadRefusal::Lender(lender)) => u32::from(u8::from(lender)),
+        Err(ReadRefusal::Text(fault)) => u32::from(u8::from(fault.refusal)),
     }
 }
 

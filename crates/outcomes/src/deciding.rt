@@ -10,13 +10,13 @@ use crate::refused::Refused;
 use census::{Census, take_census};
 use hoa_text::{ReadRefusal, match_names, read};
 use hoa_tokens::{Fault, Refusal};
-use tables::Table;
+use tables::{TABLE_CELLS, Table};
 
 /// The counts of the automaton that a text denotes, or why the text is refused.
 fn read_census(bytes: &[u8]) -> Result<Census, Fault>
     ensures { MatchResult result (TextCounted bytes.now) (TextRefused bytes.now) }
 {
-    let mut cells = [0u16; 4_096];
+    let mut cells = [0; TABLE_CELLS];
     let mut table = Table::blank(&mut cells);
     match read(&mut table, bytes) {
         Ok(()) => Ok(take_census(&table)),

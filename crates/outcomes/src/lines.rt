@@ -12,7 +12,7 @@ use std::alloc::{AllocError, Global};
 fn pair_line(heap: Global, refusal: PartsRefusal) -> Result<String, AllocError>
     ensures { IfOk result (λ s. string_bytes s ≡ line_of_pair_refusal refusal) }
 {
-    let number = refusal.number();
+    let number = u8::from(refusal);
     format!(in heap; "refused pair {number}\n")
 }
 

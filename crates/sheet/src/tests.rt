@@ -14,18 +14,12 @@ fn strips_are_rechecked(rt: HostRuntime) -> Result<(), Fail> {
     assert!(rt; sheet.read(b"HOA: v1").is_err());
     assert!(rt; sheet.read(text).is_ok());
     assert_eq!(rt; sheet.count(), 0);
-    let Ok(rule) = Settles::new(0, 1) else {
-        assert!(rt; false);
-        return Ok(());
-    };
+    let rule = Settles::new(0, 1)?;
     let lasso = [1, 1, 2, 0, 0, 3, 0, 2, 0, 3];
     assert_eq!(rt; sheet.recheck(&rule, &lasso), Ok(true));
     assert_eq!(rt; sheet.recheck(&rule, &lasso[0..9]), Ok(false));
     assert_eq!(rt; sheet.recheck(&rule, &[2, 4, 0, 0, 0, 0, 0]), Ok(false));
-    let Ok(wide) = Again::new(0, 2) else {
-        assert!(rt; false);
-        return Ok(());
-    };
+    let wide = Again::new(0, 2)?;
     assert_eq!(rt;
         sheet.recheck(&wide, &lasso),
         Err(PartsRefusal::SignalsDiffer)
