@@ -1,7 +1,7 @@
 -- A loop over the targets of the steps from a state by a letter: each turn has the lowest target that is left, and in the end every target was seen.
 use Rattle.std.proofs.Common.{◌≡◌, ℕ, ◌<◌, T, Some, None, Option, sym, subst, ap, ◌∙◌, arith}
 use Rattle.omega.specs.Automata.{Meaning, Lowest}
-use Rattle.omega.proofs.Successors.{none_left_all_seen, lowest_seen_more}
+use Rattle.omega.proofs.Successors.{none_left_all_seen}
 use Rattle.automaton.specs.Questions.{Within}
 use Rattle.automaton.specs.declared.stepping.Successors.{Successors}
 use Rattle.automaton.specs.Successors.{Targets, targets, above, left, GivesLowest, IsOver}
@@ -13,11 +13,6 @@ record Turn (xs : Targets) (given : Option ℕ) (ys : Targets) : Type 0 where
   leaves : ys ≡ record { test = xs.test; bound = xs.bound; from = above xs.from given }
 
 module _ {X : Type 0} {meaning : X → Meaning} {A : Meaning} {s a : ℕ} where
-  -- a loop begins over all targets
-  pub over_begun : {it : Successors X} → left meaning it ≡ targets A s a 0 → IsOver meaning A s a it
-  over_begun {it} whole =
-      let e : it.from ≡ 0 = ap (λ xs. xs.from) whole in record { rest = whole ∙ ap (targets A s a) (sym e); inside = omega arith }
-
   module _ {x y : Successors X} (over : IsOver meaning A s a x) {given : Option ℕ} (gives : GivesLowest meaning x given y) where
     turn : Turn (targets A s a x.from) given (left meaning y)
     turn = subst (λ xs. Turn xs given (left meaning y)) over.rest (record { lowest = gives.lowest; lands = gives.lands; leaves = gives.leaves })
@@ -44,10 +39,6 @@ module _ {X : Type 0} {meaning : X → Meaning} {A : Meaning} {s a : ℕ} where
         }
 
   module _ (P : ℕ → Type 0) {x y : Successors X} (over : IsOver meaning A s a x) (seen : (k : ℕ) → k < x.from → T (A.step s a k) → P k) where
-    -- one target more is seen
-    pub over_seen_more : {t : ℕ} → GivesLowest meaning x (Some t) y → P t → (k : ℕ) → k < y.from → T (A.step s a k) → P k
-    over_seen_more {t} gives here = rw (over_above over gives) (lowest_seen_more (A.step s a) P x.from seen t (over_lowest over gives) here)
-
     -- every target was seen
     pub over_all_seen : GivesLowest meaning x None y → (k : ℕ) → T (A.step s a k) → P k
     over_all_seen gives = none_left_all_seen (A.step s a) P x.from seen (over_lowest over gives)
