@@ -22,12 +22,3 @@ impl From<PartsRefusal> for u8 {
         refusal as u8
     }
 }
-
-impl PartsRefusal {
-    /// The number of the case.
-    pub fn number(self) -> u8
-        ensures { result ≡ parts_number self }
-    {
-        self.into()
-    }
-}
