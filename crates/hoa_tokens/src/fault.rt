@@ -67,13 +67,6 @@ impl Refusal {
             layer: self.layer(),
         }
     }
-
-    /// The number of the case.
-    pub fn number(self) -> u8
-        ensures { result ≡ refusal_number self }
-    {
-        u8::from(self)
-    }
 }
 
 impl From<Refusal> for u8 {
