@@ -16,14 +16,7 @@ pub enum Verdict {
 #[derive(Clone, Copy, PartialEq, Eq, Debug)]
 pub struct UnknownVerdict(pub u32);
 
-impl Verdict {
-    /// The number of the case.
-    pub fn number(self) -> u32
-        ensures { result ≡ verdict_number self }
-    {
-        self as u32
-    }
-}
+impl Verdict {}
 
 impl From<Verdict> for u32 {
     ghost from_gives = { λ verdict number. number ≡ verdict_number verdict };

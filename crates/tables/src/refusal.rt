@@ -13,14 +13,7 @@ pub enum LenderRefusal {
     ShortWork = 23,
 }
 
-impl LenderRefusal {
-    /// The number of the case.
-    pub fn number(self) -> u8
-        ensures { result ≡ lender_number self }
-    {
-        self as u8
-    }
-}
+impl LenderRefusal {}
 
 impl From<LenderRefusal> for u8 {
     ghost from_gives = { λ refusal number. number ≡ lender_number refusal };
