@@ -50,10 +50,7 @@ fn count_both(
 /// The counts of a sheet and a rule. A file that could not be read is none.
 ///
 /// The first refusal counts, in this order: the sheet's file, its text, the rule's file, its text, and then whether the two name their signals alike.
-pub fn decide(
-    sheet: &Option<Vec<u8>>,
-    rule: &Option<Vec<u8>>,
-) -> Result<(Census, Census), Refused>
+pub fn decide(sheet: &Option<Vec<u8>>, rule: &Option<Vec<u8>>) -> Result<(Census, Census), Refused>
     ensures { Decided (option_map vec_items sheet.now) (option_map vec_items rule.now) result }
 {
     let Some(sheet) = sheet else {
