@@ -6,6 +6,7 @@ use automaton::{Automaton, has_step, letters};
 use std::alloc::{AllocError, Global};
 
 /// What a state may be marked as.
+// An enum and no closure: what is printed is defined by the marks too.
 #[derive(Clone, Copy)]
 pub enum Mark {
     Start,

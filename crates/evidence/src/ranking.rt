@@ -8,6 +8,7 @@ ghost use Rattle.evidence.specs.declared.verdict.Verdict.TheVariants as verdict;
 use automaton::{Automaton, letters, successors};
 
 /// The word for a state outside.
+// A strip is lent words, so a rank in it is a word and no option.
 pub const OUTSIDE: u32 = u32::MAX;
 
 /// Whether a strip whose first word is that of a ranking tells one, which then rules out every accepted word.

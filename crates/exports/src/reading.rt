@@ -6,6 +6,7 @@ use hoa_text::{ReadRefusal, read};
 use tables::{TABLE_CELLS, Table};
 
 /// The number of an answer: 0 where the text was read, else that of the refusal.
+// Other languages are answered by one number.
 fn number_of(answer: Result<(), ReadRefusal>) -> u32
     ensures { result ≡ answer_number answer }
 {

@@ -11,12 +11,9 @@ ghost use Rattle.hoa_document.specs.Naming.{row_of};
 
 use crate::expect::{count, expect, expect_all, is_token, state};
 use crate::names::Names;
+use automaton::MOST_SIGNALS;
 use hoa_tokens::{Fault, Mark, Placed, Read, Refusal, Text, Token};
-
-/// The most states and signals of a text.
-const MOST_STATES: u32 = 64;
-
-const MOST_SIGNALS: u32 = 4;
+use tables::MOST_TABLE_STATES;
 
 /// `1 Inf(0) --BODY--`.
 const INFINITELY_OFTEN: [Token<'static>; 6] = [
@@ -69,7 +66,7 @@ fn read_states<'a>(text: Text<'a>) -> Result<Read<'a, u32>, Fault>
             Token::Word(b"States:"),
         ],
     )?;
-    count(text, head, MOST_STATES)
+    count(text, head, MOST_TABLE_STATES)
 }
 
 /// The starts, each behind a `Start:`.

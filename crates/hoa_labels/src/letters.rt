@@ -6,6 +6,7 @@ ghost use Rattle.hoa_labels.specs.Letters.{Means};
 ghost use Rattle.hoa_labels.specs.Sets.{set_of};
 
 /// The most signals of a text.
+// The labels know no automata, which have a limit of the same number.
 const MOST_SIGNALS: u32 = 4;
 
 /// How many signals a letter is made of: at most four.
@@ -16,6 +17,7 @@ pub struct Signals {
 }
 
 /// All letters of so many signals.
+// A table says the same of its cells; to share one line, the labels would have to know tables.
 fn all_of(count: u32) -> u16
     requires { count ≤ most_signals }
     ensures { result ≡ set_of (λ a. true) (2 ^ count) }

@@ -18,6 +18,7 @@ fn read_census(bytes: &[u8]) -> Result<Census, Fault>
 {
     let mut cells = [0; TABLE_CELLS];
     let mut table = Table::blank(&mut cells);
+    // The cells are enough, so what is left is the fault; `?` would need a fault for the lender too.
     match read(&mut table, bytes) {
         Ok(()) => Ok(take_census(&table)),
         Err(ReadRefusal::Text(fault)) => Err(fault),

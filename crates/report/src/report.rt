@@ -20,6 +20,7 @@ pub enum Report {
 }
 
 /// What is wrong with a byte of a text.
+// No Display of the refusal: it is the readers' type, and these words are this program's.
 fn complaint_of(refusal: Refusal) -> &'static str
     ensures { result.now ≡ complaint refusal }
 {
