@@ -75,10 +75,15 @@ fn hex_digit(d: u32) -> u8
     requires { d < 16 }
     ensures { result ≡ digit_in_hex d }
 {
-    if d < 10 { 48 + d as u8 } else { 87 + d as u8 }
+    if d < 10 {
+        b'0' + d as u8
+    } else {
+        b'a' - 10 + d as u8
+    }
 }
 
 /// Four hexadecimal digits.
+// No `{:04x}`: of a padded number a clause would speak by fill, width and flags, where four digits say what is meant.
 fn hex(n: u32) -> [u8; 4]
     ensures { result ≡ hex_text n }
 {

@@ -24,29 +24,23 @@ fn hex_value(b: u8) -> u8
     ensures is { result ≡ value_of_hex b }
     ensures few { result < 16 }
 {
-    if b >= 48 && b < 58 {
-        return b - 48;
+    match b {
+        b'0'..=b'9' => b - b'0',
+        b'a'..=b'f' => b - b'a' + 10,
+        _ => 0,
     }
-    if b >= 97 && b < 103 {
-        return b - 87;
-    }
-    0
 }
 
 /// The byte that is meant by one letter behind a backslash.
 fn short_escape(b: u8) -> u8
     ensures { result ≡ value_of_escape b }
 {
-    if b == 110 {
-        return 10;
+    match b {
+        b'n' => b'\n',
+        b't' => b'\t',
+        b'r' => b'\r',
+        _ => b,
     }
-    if b == 116 {
-        return 9;
-    }
-    if b == 114 {
-        return 13;
-    }
-    b
 }
 
 impl Escape {
@@ -57,13 +51,13 @@ impl Escape {
     {
         match self {
             Escape::Plain => {
-                if b == 92 {
+                if b == b'\\' {
                     return (Escape::Begun, None);
                 }
                 (Escape::Plain, Some(b))
             }
             Escape::Begun => {
-                if b == 120 {
+                if b == b'x' {
                     return (Escape::First, None);
                 }
                 (Escape::Plain, Some(short_escape(b)))

@@ -21,14 +21,11 @@ pub(crate) fn is_ranking<A: Automaton>(automaton: &A, strip: &[u32]) -> bool
         return false;
     };
     let n = automaton.states();
-    *states == n
-        && *zero == 0
-        && has_ranks(strip, n)
-        && Ranks {
-            automaton,
-            ranks: &strip[3..3 + n as usize],
-        }
-        .are_ranked()
+    if *states != n || *zero != 0 || !has_ranks(strip, n) {
+        return false;
+    }
+    let ranks = &strip[3..3 + n as usize];
+    Ranks { automaton, ranks }.are_ranked()
 }
 
 /// Whether a strip is long enough for the ranks of `n` states.

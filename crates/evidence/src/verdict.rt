@@ -16,8 +16,6 @@ pub enum Verdict {
 #[derive(Clone, Copy, PartialEq, Eq, Debug)]
 pub struct UnknownVerdict(pub u32);
 
-impl Verdict {}
-
 impl From<Verdict> for u32 {
     ghost from_gives = { λ verdict number. number ≡ verdict_number verdict };
 

@@ -5,9 +5,7 @@ ghost use Rattle.hoa_grammar.specs.Labels.{on};
 ghost use Rattle.hoa_labels.specs.Letters.{Means};
 ghost use Rattle.hoa_labels.specs.Sets.{set_of};
 
-/// The most signals of a text.
-// The labels know no automata, which have a limit of the same number.
-const MOST_SIGNALS: u32 = 4;
+use automaton::MOST_SIGNALS;
 
 /// How many signals a letter is made of: at most four.
 #[derive(Clone, Copy)]
@@ -17,7 +15,7 @@ pub struct Signals {
 }
 
 /// All letters of so many signals.
-// A table says the same of its cells; to share one line, the labels would have to know tables.
+// Five constants and no shift, as a table has it: each is the set by computing, where a power of two would need a lemma on its bits.
 fn all_of(count: u32) -> u16
     requires { count ≤ most_signals }
     ensures { result ≡ set_of (λ a. true) (2 ^ count) }

@@ -6,8 +6,8 @@ ghost use Rattle.hoa_tokens.specs.Bytes.{letter, digit, member, sign, MarkRead};
 use crate::fault::Refusal;
 use crate::token::Mark;
 
-// An enum and no closure: a run of a class has exactly the bytes that the class names, and of a closure's run only the closure could tell.
 /// A class of bytes of which a run is taken.
+// An enum and no closure, so that a clause can say exactly which bytes a run holds.
 #[derive(Clone, Copy)]
 pub enum Class {
     Blank,

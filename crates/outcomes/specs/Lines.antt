@@ -6,8 +6,8 @@ use Rattle.census.specs.declared.census.Census.{Census}
 use Rattle.report.specs.declared.source.Source.{Source}
 use Rattle.report.specs.declared.source.Source.TheVariants as source
 use Rattle.report.specs.Lines.{name_of_source, line_of_refusal}
-use Rattle.outcomes.specs.declared.refused.Refused.{Refused}
-use Rattle.outcomes.specs.declared.refused.Refused.TheVariants.{Sheet, Rule, Pair}
+use Rattle.hoa_text.specs.declared.refusal.MatchRefusal.{MatchRefusal}
+use Rattle.hoa_text.specs.declared.refusal.MatchRefusal.TheVariants.{First, Second, Parts}
 
 -- the pair is refused: number
 abbrev pub line_of_pair_refusal : PartsRefusal → List ℕ
@@ -18,8 +18,8 @@ abbrev pub line_of_census : Source → Census → List ℕ
 line_of_census source x = name_of_source source ++ (codes " states " ++ (decimal x.states ++ (codes " signals " ++ (decimal x.signals ++ (codes " starts " ++ (decimal x.starts ++ (codes " good " ++ (decimal x.goods ++ (codes " steps " ++ (decimal x.steps ++ codes "\n"))))))))))
 
 -- what is printed of two files
-abbrev pub outcome_text : Result (Census × Census) Refused → List ℕ
-outcome_text (Err (Sheet f)) = line_of_refusal source.Sheet f
-outcome_text (Err (Rule f)) = line_of_refusal source.Rule f
-outcome_text (Err (Pair e)) = line_of_pair_refusal e
+abbrev pub outcome_text : Result (Census × Census) MatchRefusal → List ℕ
+outcome_text (Err (First f)) = line_of_refusal source.Sheet f
+outcome_text (Err (Second f)) = line_of_refusal source.Rule f
+outcome_text (Err (Parts e)) = line_of_pair_refusal e
 outcome_text (Ok (x, y)) = line_of_census source.Sheet x ++ line_of_census source.Rule y

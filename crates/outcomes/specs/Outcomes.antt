@@ -8,8 +8,8 @@ use Rattle.hoa_tokens.specs.declared.fault.Refusal.TheVariants.{Unreadable}
 use Rattle.hoa_tokens.specs.Scanning.{bytes_fault}
 use Rattle.hoa_document.specs.Denoting.{TextDenotes, TextRefused}
 use Rattle.hoa_text.specs.Naming.{Readable, NamesAlike, Mismatched}
-use Rattle.outcomes.specs.declared.refused.Refused.{Refused}
-use Rattle.outcomes.specs.declared.refused.Refused.TheVariants.{Sheet, Rule, Pair}
+use Rattle.hoa_text.specs.declared.refusal.MatchRefusal.{MatchRefusal}
+use Rattle.hoa_text.specs.declared.refusal.MatchRefusal.TheVariants.{First, Second, Parts}
 
 -- the file could be read, and its text is such
 abbrev pub Given : (List ℕ → Type 0) → Option (List ℕ) → Type 0
@@ -26,8 +26,8 @@ abbrev pub TextCounted : List ℕ → Census → Type 0
 TextCounted text x = (A : Meaning) × TextDenotes text A × Counted A x
 
 -- what two files come to: the sheet is refused, else the rule, else their names do not match; else both are counted
-abbrev pub Decided : Option (List ℕ) → Option (List ℕ) → Result (Census × Census) Refused → Type 0
-Decided sheet rule (Err (Sheet f)) = FileRefused sheet f
-Decided sheet rule (Err (Rule f)) = Given Readable sheet × FileRefused rule f
-Decided sheet rule (Err (Pair e)) = Given (λ a. Given (λ b. Mismatched a b e) rule) sheet
+abbrev pub Decided : Option (List ℕ) → Option (List ℕ) → Result (Census × Census) MatchRefusal → Type 0
+Decided sheet rule (Err (First f)) = FileRefused sheet f
+Decided sheet rule (Err (Second f)) = Given Readable sheet × FileRefused rule f
+Decided sheet rule (Err (Parts e)) = Given (λ a. Given (λ b. Mismatched a b e) rule) sheet
 Decided sheet rule (Ok (x, y)) = Given (λ a. TextCounted a x) sheet × Given (λ b. TextCounted b y) rule × Given (λ a. Given (NamesAlike a) rule) sheet

@@ -6,9 +6,8 @@ ghost use Rattle.hoa_tokens.specs.Faults.{fault_at};
 ghost use Rattle.hoa_document.specs.Denoting.{TextRefused};
 ghost use Rattle.outcomes.specs.Outcomes.{TextCounted, Decided};
 
-use crate::refused::Refused;
 use census::{Census, take_census};
-use hoa_text::{ReadRefusal, match_names, read};
+use hoa_text::{MatchRefusal, ReadRefusal, match_names, read};
 use hoa_tokens::{Fault, Refusal};
 use tables::{TABLE_CELLS, Table};
 
@@ -39,7 +38,7 @@ fn count_both(
     rule: &[u8],
     first: Census,
     second: Census,
-) -> Result<(Census, Census), Refused>
+) -> Result<(Census, Census), MatchRefusal>
     requires sheet { TextCounted sheet.now first }
     requires rule { TextCounted rule.now second }
     ensures { Decided (Some sheet.now) (Some rule.now) result }
@@ -51,16 +50,19 @@ fn count_both(
 /// The counts of a sheet and a rule. A file that could not be read is none.
 ///
 /// The first refusal counts, in this order: the sheet's file, its text, the rule's file, its text, and then whether the two name their signals alike.
-pub fn decide(sheet: &Option<Vec<u8>>, rule: &Option<Vec<u8>>) -> Result<(Census, Census), Refused>
+pub fn decide(
+    sheet: &Option<Vec<u8>>,
+    rule: &Option<Vec<u8>>,
+) -> Result<(Census, Census), MatchRefusal>
     ensures { Decided (option_map vec_items sheet.now) (option_map vec_items rule.now) result }
 {
     let Some(sheet) = sheet else {
-        return Err(Refused::Sheet(unreadable()));
+        return Err(MatchRefusal::First(unreadable()));
     };
-    let first = read_census(sheet.as_slice()).map_err(Refused::Sheet)?;
+    let first = read_census(sheet.as_slice()).map_err(MatchRefusal::First)?;
     let Some(rule) = rule else {
-        return Err(Refused::Rule(unreadable()));
+        return Err(MatchRefusal::Second(unreadable()));
     };
-    let second = read_census(rule.as_slice()).map_err(Refused::Rule)?;
+    let second = read_census(rule.as_slice()).map_err(MatchRefusal::Second)?;
     count_both(sheet.as_slice(), rule.as_slice(), first, second)
 }

@@ -3,8 +3,6 @@
 
 mod deciding;
 mod lines;
-mod refused;
 
 pub use deciding::decide;
 pub use lines::outcome_lines;
-pub use refused::Refused;

@@ -2,9 +2,9 @@
 ghost use Rattle.std.specs.Prelude.{◌≡◌, ◌++◌, IfOk, string_bytes};
 ghost use Rattle.outcomes.specs.Lines.{line_of_pair_refusal, line_of_census, outcome_text};
 
-use crate::refused::Refused;
 use automaton::PartsRefusal;
 use census::Census;
+use hoa_text::MatchRefusal;
 use report::{Source, refused_line};
 use std::alloc::{AllocError, Global};
 
@@ -35,7 +35,7 @@ fn census_line(heap: Global, source: Source, census: Census) -> Result<String, A
 /// The lines that are printed of a sheet and a rule: the counts of both, or why they are refused.
 pub fn outcome_lines(
     heap: Global,
-    outcome: Result<(Census, Census), Refused>,
+    outcome: Result<(Census, Census), MatchRefusal>,
 ) -> Result<String, AllocError>
     ensures { IfOk result (λ s. string_bytes s ≡ outcome_text outcome) }
 {
@@ -46,8 +46,8 @@ pub fn outcome_lines(
             lines.push_str(second.as_str())?;
             Ok(lines)
         }
-        Err(Refused::Sheet(fault)) => refused_line(heap, Source::Sheet, fault),
-        Err(Refused::Rule(fault)) => refused_line(heap, Source::Rule, fault),
-        Err(Refused::Pair(refusal)) => pair_line(heap, refusal),
+        Err(MatchRefusal::First(fault)) => refused_line(heap, Source::Sheet, fault),
+        Err(MatchRefusal::Second(fault)) => refused_line(heap, Source::Rule, fault),
+        Err(MatchRefusal::Parts(refusal)) => pair_line(heap, refusal),
     }
 }

@@ -13,6 +13,7 @@ pub const MOST_TABLE_STATES: u32 = 64;
 /// What a table has besides its cells: how many states and signals, and the sets of its starts and of its good states.
 ///
 /// That these are within the limits is a fact of the table and of the draft that hold it.
+// It is no ghost field of the frame: the kit refuses a table, which borrows its cells, in a pair when a part of it has one.
 #[derive(Clone, Copy)]
 pub struct Frame {
     pub(crate) states: u32,

@@ -13,8 +13,6 @@ pub enum LenderRefusal {
     ShortWork = 23,
 }
 
-impl LenderRefusal {}
-
 impl From<LenderRefusal> for u8 {
     ghost from_gives = { λ refusal number. number ≡ lender_number refusal };
 

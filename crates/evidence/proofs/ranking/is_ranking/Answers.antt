@@ -4,8 +4,8 @@ use Rattle.evidence.proofs.Ranks.{part_ranking}
 use Rattle.evidence.proofs.Worths.{told_ranking_refutes}
 use Rattle.evidence.proofs.ranking.is_ranking.Goals as goal
 
-pub returns-then-has_ranks : goal.returns-then-has_ranks
-returns-then-has_ranks g c =
+pub returns : goal.returns
+returns g c =
     let A = g.A.Automaton.meaning c.args.automaton.now in
     let strip = c.args.strip.now in
     let n = c.states-n.result in
