@@ -9,7 +9,7 @@ use automaton::{Automaton, letters, successors};
 /// A breadth-first search: the queue's states before `end` are reached, and those before `head` are done with.
 ///
 /// A distance word is 1 more than the distance of its state, and 0 where that is not reached.
-// The lists are parts of one lent list of words, so they hold no pairs and no options.
+// The lists are parts of one lent list of words, so they hold no pairs and no options. That they are wide enough is said in clauses, since it is so for one automaton, which a search does not hold.
 #[derive(Drop)]
 pub(crate) struct Search<'w> {
     pub(crate) distance: &'w mut [u32],

@@ -6,6 +6,8 @@ mod listing;
 mod refusal;
 mod report;
 mod source;
+#[cfg(test)]
+mod tests;
 
 pub use file::read_text;
 pub use refusal::refused_line;
