@@ -49,6 +49,7 @@ pub(crate) fn answer(heap: Global, written: &[u8]) -> Result<Vec<u8>, AllocError
     let mut cells = [9; MOST_CELLS];
     let lent = case.cells.min(MOST_CELLS);
     let mut table = Table::blank(&mut cells[0..lent]);
+    // Each arm makes its line, since the proof of what the two have in common would take them apart again.
     match read(&mut table, case.text.as_slice()) {
         Ok(()) => {
             let text = automaton_text(heap, &table)?;

@@ -35,6 +35,7 @@ fn listed_if(heap: Global, yes: bool, s: u32) -> Result<Vec<u8>, AllocError>
 }
 
 /// The states that have a mark.
+// This loop and those of `row` and `steps` stay apart: one for the three would be handed a closure that allocates, and could promise only something about whatever that writes.
 fn marked<A: Automaton>(heap: Global, automaton: &A, mark: Mark) -> Result<Vec<u8>, AllocError>
     ensures { IfOk result (λ v. v.items ≡ marked_text (A.Automaton.meaning automaton.now) mark) }
 {

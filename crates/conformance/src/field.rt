@@ -7,6 +7,7 @@ ghost use Rattle.std.specs.List.{position_or_len};
 const MOST_NUMBER: usize = 1_000_000;
 
 /// The place of the first byte `b`, or the end.
+// The end and no None, so that what stands before and behind is a slice in both cases.
 fn place(bytes: &[u8], b: u8) -> usize
     ensures is { result ≡ position_or_len (λ x. x == b) bytes.now }
     ensures within { result ≤ length bytes.now }

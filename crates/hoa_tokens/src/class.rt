@@ -28,7 +28,7 @@ pub fn is_letter(b: u8) -> bool
 pub fn is_digit(b: u8) -> bool
     ensures { result ≡ digit b }
 {
-    matches!(b, b'0'..=b'9')
+    b.is_ascii_digit()
 }
 
 impl From<Mark> for u8 {

@@ -52,6 +52,7 @@ fn word_at<'a>(text: &'a [u8], place: usize) -> Placed<'a>
 }
 
 /// The number that digits write, or one above the greatest where theirs is above it.
+// It goes no higher, so that any number of digits fits; whether it is too great is asked with the digits' plainness.
 fn value_of(digits: &[u8]) -> u32
     requires { AllDigits digits.now }
     ensures { result ≡ min 10000 (value digits.now) }

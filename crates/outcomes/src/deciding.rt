@@ -56,13 +56,9 @@ pub fn decide(
 ) -> Result<(Census, Census), MatchRefusal>
     ensures { Decided (option_map vec_items sheet.now) (option_map vec_items rule.now) result }
 {
-    let Some(sheet) = sheet else {
-        return Err(MatchRefusal::First(unreadable()));
-    };
+    let sheet = sheet.as_ref().ok_or(MatchRefusal::First(unreadable()))?;
     let first = read_census(sheet.as_slice()).map_err(MatchRefusal::First)?;
-    let Some(rule) = rule else {
-        return Err(MatchRefusal::Second(unreadable()));
-    };
+    let rule = rule.as_ref().ok_or(MatchRefusal::Second(unreadable()))?;
     let second = read_census(rule.as_slice()).map_err(MatchRefusal::Second)?;
     count_both(sheet.as_slice(), rule.as_slice(), first, second)
 }

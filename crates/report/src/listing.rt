@@ -53,6 +53,7 @@ pub(crate) fn listing(heap: Global, text: Text<'_>) -> Result<Vec<u8>, AllocErro
     let mut lines = Vec::new(heap);
     let mut from = 0;
     loop {
+        // A match and no let-else, since the proof names the fault that ends the list.
         let found = match text.scan(from) {
             Ok(found) => found,
             Err(_) => return Ok(lines),

@@ -11,6 +11,7 @@ use hoa_tokens::{Fault, Refusal, Text};
 use std::alloc::{AllocError, Global};
 
 /// What is printed of a file.
+// No Result: both are lines to print, and neither is an error of the call.
 #[derive(Drop)]
 pub enum Report {
     /// The lines of a text that is all tokens. The program goes on behind them.
