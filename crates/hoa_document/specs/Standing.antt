@@ -1,12 +1,12 @@
 -- Scaffolding, no promise: what reading one token comes to.
-use Rattle.std.specs.Prelude.{◌≡◌, ℕ, Bool, List, Ok, Err, Result, MatchResult}
+use Rattle.std.specs.Prelude.{◌≡◌, ℕ, Bool, true, false, List, Ok, Err, Result, MatchResult}
 use Rattle.hoa_tokens.specs.declared.fault.Fault.{Fault}
 use Rattle.hoa_tokens.specs.declared.fault.Refusal.{Refusal}
 use Rattle.hoa_tokens.specs.declared.token.Placed.{Placed}
 use Rattle.hoa_tokens.specs.declared.token.Read.{Read}
-use Rattle.hoa_tokens.specs.Scanning.{Lexeme, lexeme}
+use Rattle.hoa_tokens.specs.Scanning.{Lexeme, word, number, name, mark, end, lexeme}
 use Rattle.hoa_grammar.specs.Marking.{Limit, kept, broken}
-use Rattle.hoa_grammar.specs.Machine.{State, goes, step, number_only, is_token}
+use Rattle.hoa_grammar.specs.Machine.{State, goes, step, number_only}
 use Rattle.hoa_grammar.specs.Reading.{Reached, Refused}
 
 -- the machine stands before the token in hand as in the state s: it takes that token as s does
@@ -17,7 +17,11 @@ pub record Stands (text : List ℕ) (s : State) (head : Placed) : Type 0 where
 
 -- a token that may be due: no name, and not the text's end
 abbrev pub is_fixed : Lexeme → Bool
-is_fixed x = is_token x x
+is_fixed (word w) = true
+is_fixed (number n) = true
+is_fixed (name w) = false
+is_fixed (mark m) = true
+is_fixed end = false
 
 -- the limit that a test of a number keeps or breaks
 abbrev pub limit_of : Result (Unit {0}) Refusal → Limit

@@ -138,13 +138,13 @@ fn read_described<'a>(
 /// All blocks behind a header.
 fn read_blocks<'a>(
     text: Text<'a>,
-    header: Read<'a, Heading<'a>>,
+    header: &Read<'a, Heading<'a>>,
     signals: Signals,
     draft: &mut Draft,
 ) -> Result<Placed<'a>, Fault>
-    requires few { header.value.states ≤ most_states }
-    requires none { BlocksRead text.bytes.now header.value.states signals.count (row_of header.value.names) 0 draft.old header.head }
-    ensures { MatchResult result (λ x. (lexeme x.token ≡ word (codes "State:") → ⊥) × ((set : ℕ) × BlocksRead text.entry.bytes.now header.entry.value.states signals.count (row_of header.entry.value.names) set draft.new x)) (Refused text.entry.bytes.now) }
+    requires few { header.now.value.states ≤ most_states }
+    requires none { BlocksRead text.bytes.now header.now.value.states signals.count (row_of header.now.value.names) 0 draft.old header.now.head }
+    ensures { MatchResult result (λ x. (lexeme x.token ≡ word (codes "State:") → ⊥) × ((set : ℕ) × BlocksRead text.entry.bytes.now header.now.value.states signals.count (row_of header.now.value.names) set draft.new x)) (Refused text.entry.bytes.now) }
 {
     let states = header.value.states;
     let mut head = header.head;
@@ -172,18 +172,15 @@ fn read_end<'a>(text: Text<'a>, head: Placed<'a>) -> Result<(), Fault>
 }
 
 /// The body behind a header, and the table that the two mean, as a draft.
-pub(crate) fn read_body<'a>(text: Text<'a>, header: Read<'a, Heading<'a>>) -> Result<Draft, Fault>
-    requires { HeaderRead text.bytes.now header }
-    ensures { MatchResult result (λ draft. (d : Document) × DocumentRead text.entry.bytes.now d × Drafted d.header d.blocks draft × (d.header.names ≡ row_of header.entry.value.names)) (Refused text.entry.bytes.now) }
+pub(crate) fn read_body<'a>(text: Text<'a>, header: &Read<'a, Heading<'a>>) -> Result<Draft, Fault>
+    requires { HeaderRead text.bytes.now header.now }
+    ensures { MatchResult result (λ draft. (d : Document) × DocumentRead text.entry.bytes.now d × Drafted d.header d.blocks draft × (d.header.names ≡ row_of header.now.value.names)) (Refused text.entry.bytes.now) }
 {
-    let Heading {
-        states,
-        starts,
-        names,
-    } = header.value;
-    let signals = Signals::new(names.count).unwrap();
-    let mut draft = Draft::new(states, names.count).unwrap();
-    draft.add_starts(starts);
+    let heading = &header.value;
+    let count = heading.names.len() as u32;
+    let signals = Signals::new(count).unwrap();
+    let mut draft = Draft::new(heading.states, count).unwrap();
+    draft.add_starts(heading.starts);
     let head = read_blocks(text, header, signals, &mut draft)?;
     read_end(text, head)?;
     Ok(draft)

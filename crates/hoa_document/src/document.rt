@@ -12,7 +12,7 @@ use hoa_tokens::{Fault, Read, Text};
 use tables::Draft;
 
 /// A text, and what its header says.
-#[derive(Clone, Copy)]
+#[derive(Drop)]
 struct Begun<'a> {
     text: Text<'a>,
     header: Read<'a, Heading<'a>>,
@@ -33,14 +33,15 @@ pub fn read_draft(bytes: &[u8]) -> Result<Draft, Fault>
     ensures one { SaysOne bytes.now }
 {
     let begun = begin(bytes)?;
-    read_body(begun.text, begun.header)
+    read_body(begun.text, &begun.header)
 }
 
 /// The names of the text's document; or why the text is refused, for whatever fault.
+#[tactic(auto, using(crate::proofs::Meant::writes_here))]
 pub fn read_names(bytes: &[u8]) -> Result<Names<'_>, Fault>
     ensures { MatchResult result (TextNames bytes.now) (TextRefused bytes.now) }
 {
     let begun = begin(bytes)?;
-    read_body(begun.text, begun.header)?;
+    read_body(begun.text, &begun.header)?;
     Ok(begun.header.value.names)
 }

@@ -26,7 +26,7 @@ const INFINITELY_OFTEN: [Token<'static>; 6] = [
 ];
 
 /// What a header says.
-#[derive(Clone, Copy)]
+#[derive(Drop)]
 pub(crate) struct Heading<'a> {
     pub states: u32,
     pub starts: u64,
@@ -129,11 +129,11 @@ fn read_names<'a>(
 {
     let mut names = Names::new();
     let mut head = head;
-    while names.count < signals {
+    for _ in 0..signals {
         let Token::Name(name) = head.token else {
             return Err(Refusal::Unexpected.at(head.place));
         };
-        if names.contains(name) {
+        if names.contains(&name) {
             return Err(Refusal::Repeated.at(head.place));
         }
         names.push(name);

@@ -1,5 +1,5 @@
 -- A table that is filled from a draft: its cells, and the automaton that it is.
-use Rattle.std.proofs.Common.{◌≡◌, ℕ, ◌+◌, ◌*◌, ◌<◌, ◌≤◌, false, ◌&&◌, ltb, List, get_or, take, drop, sym, ap, ◌∙◌, subst, ⊎_elim}
+use Rattle.std.proofs.Common.{◌≡◌, ℕ, ◌+◌, ◌*◌, ◌<◌, ◌≤◌, false, ◌&&◌, ltb, List, get_or, take, drop, sym, ap, ◌∙◌, subst, ⊎_elim, Result, Ok, Err, MatchResult}
 use Rattle.std.proofs.lemmas.List.{get_or-take}
 use Rattle.std.proofs.lemmas.Bool.{cases_lt, le-ltb, and_left, and_right}
 use Rattle.omega.specs.Signals.{bit}
@@ -10,6 +10,11 @@ use Rattle.tables.specs.Cells.{table_cells}
 use Rattle.tables.proofs.Added.{cell_inside}
 use Rattle.hoa_document.specs.Denoting.{TextDenotes}
 use Rattle.hoa_text.specs.Reading.{CellsSet}
+
+-- two things that are told of a result
+pub both_told : {X Y : Type 0} (r : Result X Y) (P P' : X → Type 0) (Q Q' : Y → Type 0) → MatchResult r P Q → MatchResult r P' Q' → MatchResult r (λ x. P x × P' x) (λ y. Q y × Q' y)
+both_told (Ok x) _ _ _ _ p q = (p, q)
+both_told (Err y) _ _ _ _ p q = (p, q)
 
 -- its frame is the draft's, and so are its first cells
 module _ (draft : Draft) (frame : Frame) (cells : List ℕ) (same : frame ≡ draft.frame) (front : take table_cells cells ≡ draft.cells) where

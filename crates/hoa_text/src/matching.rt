@@ -21,10 +21,10 @@ pub fn match_names(first: &[u8], second: &[u8]) -> Result<(), MatchRefusal>
 {
     let left = read_names(first).map_err(MatchRefusal::First)?;
     let right = read_names(second).map_err(MatchRefusal::Second)?;
-    if left.count != right.count {
+    if left.len() != right.len() {
         return Err(MatchRefusal::Parts(PartsRefusal::SignalsDiffer));
     }
-    if !alike(left.as_slice(), right.as_slice()) {
+    if !alike(&left, &right) {
         return Err(MatchRefusal::Parts(PartsRefusal::NamesDiffer));
     }
     Ok(())

@@ -17,8 +17,7 @@ fn write(table: &mut Table<'_>, draft: &Draft) -> Result<(), LenderRefusal>
     ensures kept { OnErr result (table.new.frame ≡ table.old.frame) }
     ensures lender { table.new.cells.ghost_name ≡ table.old.cells.ghost_name }
 {
-    table.fill(draft)?;
-    Ok(())
+    table.fill(draft)
 }
 
 /// Reads a text into a table: the table is then the one that the text's document denotes. Else the table and its cells stay as they were.

@@ -57,5 +57,5 @@ loop-signals-preserved c =
     let b = c.in_ok-edges.ensures i.header i.rows i.drafted (omega (arith, i.sized, c.in_ok-from.ensures.fresh)) good in
     rw c.with_described-described.ensures (
       described_in c.loop-signals.described c.in_ok-from.from.value (omega (arith, c.requires.few, c.in_ok-from.ensures.fresh)) c.loop-signals.invariant.0,
-      blocks_more c.args.header.value.states c.args.signals.count c.loop-signals.described c.in_ok-from.from.value i.header i.rows _ c.in_ok-head.head (omega (arith, c.requires.few, c.in_ok-from.ensures.fresh)) i.sized i.named i.described (c.in_ok-head.ensures i.header i.rows b.0 i.sized b.1),
+      blocks_more c.args.header.now.value.states c.args.signals.count c.loop-signals.described c.in_ok-from.from.value i.header i.rows _ c.in_ok-head.head (omega (arith, c.requires.few, c.in_ok-from.ensures.fresh)) i.sized i.named i.described (c.in_ok-head.ensures i.header i.rows b.0 i.sized b.1),
     )

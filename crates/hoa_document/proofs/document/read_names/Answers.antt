@@ -1,15 +1,9 @@
 -- What the header says is what the text says, once the body is read.
 use Rattle.hoa_tokens.proofs.Returning.{passes_error}
-use Rattle.hoa_document.proofs.Meant.{refused_here, writes_here}
+use Rattle.hoa_document.proofs.Meant.{refused_here}
 use Rattle.hoa_document.proofs.document.read_names.Goals as goal
 
 pub returns-in_err-read_body : goal.returns-in_err-read_body
 returns-in_err-read_body c =
     let begun = c.in_ok-begun.ensures in
     rw (passes_error _ c.from_residual-in_err-read_body.ensures.1) (refused_here begun.0 begun.1 _ c.in_err-read_body.ensures)
-
-pub returns : goal.returns
-returns c =
-    let begun = c.in_ok-begun.ensures in
-    let said = c.in_ok-read_body.ensures in
-    (said.0, writes_here begun.0 begun.1 said.0 said.1, said.3)

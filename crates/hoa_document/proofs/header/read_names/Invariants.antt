@@ -1,5 +1,6 @@
 -- What the loop over the names keeps.
-use Rattle.std.proofs.Common.{ℕ, ◌-◌, ◌≤◌}
+use Rattle.std.proofs.Common.{◌≡◌, ℕ, ◌-◌}
+use Rattle.arrayvec.specs.ArrayVec.{array_vec_len}
 use Rattle.hoa_grammar.specs.Rows.{Row, none}
 use Rattle.hoa_grammar.specs.Machine.{at, names}
 use Rattle.hoa_grammar.specs.Reading.{Reached}
@@ -7,8 +8,5 @@ use Rattle.hoa_document.specs.Naming.{row_of}
 use Rattle.hoa_document.proofs.header.read_names.Given as goal
 
 -- so many names are read, and held
-abbrev pub invariant-loop-names : goal.invariant-loop-names
-invariant-loop-names l = (l.names.count ≤ l.signals) × ((n : ℕ) (row : Row ℕ) → Reached l.text.bytes.now (at (names n row none l.signals)) l.initial.head → Reached l.text.bytes.now (at (names n row (row_of l.names) (l.signals - l.names.count))) l.head)
-
-abbrev pub decreases-loop-names : goal.decreases-loop-names
-decreases-loop-names l = l.signals - l.names.count
+abbrev pub invariant-loop : goal.invariant-loop
+invariant-loop l = (array_vec_len l.names ≡ l.counter) × ((n : ℕ) (row : Row ℕ) → Reached l.text.bytes.now (at (names n row none l.signals)) l.initial.head → Reached l.text.bytes.now (at (names n row (row_of l.names) (l.signals - l.counter))) l.head)
