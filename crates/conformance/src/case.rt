@@ -9,7 +9,7 @@ use crate::field::{behind, front, number};
 use std::alloc::{AllocError, Global};
 
 /// What stands between the fields of a line.
-const SPACE: u8 = 32;
+const SPACE: u8 = b' ';
 
 /// A case: its name, how many cells are lent to the reader, and the text.
 #[derive(Drop)]

@@ -7,6 +7,7 @@ use std::io::Write;
 use std::{fs, io};
 
 /// The bytes of a file, or none where it cannot be read.
+// Each program opens its files itself, since no contract could say what a file gives.
 fn read(rt: &HostRuntime, path: &str) -> Option<Vec<u8>> {
     let file = fs::open(rt, path).and_then(|file| read_text(rt.alloc(), file));
     file.ok()

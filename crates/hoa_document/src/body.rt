@@ -48,6 +48,7 @@ fn begins_edge(head: &Placed<'_>) -> bool
 }
 
 /// The edges of a block, each of which is added to the draft.
+// Only this function and `read_blocks` take text, states, signals and draft together, and they say different things of them.
 fn read_edges<'a>(
     text: Text<'a>,
     head: Placed<'a>,

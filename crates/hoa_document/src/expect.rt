@@ -15,7 +15,7 @@ ghost use Rattle.hoa_document.specs.Standing.{Stands, is_fixed, Tests, NumberRea
 use hoa_tokens::{Fault, Placed, Read, Refusal, Text, Token};
 
 /// Whether the token in hand is this one.
-// The test has a contract of its own, since the proof of a long function does not get through `==` of tokens.
+// The test has a contract of its own: the proof of `read_blocks`, which is long, did not get through a plain `==` of tokens.
 pub(crate) fn is_token(head: &Placed<'_>, token: Token<'_>) -> bool
     ensures { IsTrue result ↔ (lexeme head.now.token ≡ lexeme token.entry) }
 {

@@ -5,8 +5,9 @@ ghost use Rattle.hoa_text.specs.Differences.{FirstDifference};
 pub fn difference(a: &[u8], b: &[u8]) -> Option<usize>
     ensures { FirstDifference a.now b.now result }
 {
-    match a.iter().zip(b).position(|(x, y)| x != y) {
-        None if a.len() != b.len() => Some(a.len().min(b.len())),
-        within => within,
+    let within = a.iter().zip(b).position(|(x, y)| x != y);
+    if within.is_none() && a.len() != b.len() {
+        return Some(a.len().min(b.len()));
     }
+    within
 }

@@ -7,6 +7,7 @@ use automaton::PartsRefusal;
 use hoa_document::read_names;
 
 /// Whether two lists of names are alike.
+// A name for `==`: what slices that are equal say of two rows of names is said once.
 fn alike(first: &[&[u8]], second: &[&[u8]]) -> bool
     ensures { result ≡ same_names first.now second.now }
 {

@@ -16,8 +16,3 @@ returns-then-is_token c cur names st =
     labelled_read cur c.args.signals.count names
     (label_begins cur c.args.signals.count st is (Ok c.in_ok-behind.behind) c.in_ok-behind.ensures.scanned)
     c.read_label.result c.read_label.ensures
-
-pub returns : goal.returns
-returns c cur names st =
-    let other = not_from_Decides _ c.is_token.ensures c.if-is_token.false in
-    unlabelled_read cur c.args.signals.count st c.requires other c.all_letters.result c.all_letters.ensures

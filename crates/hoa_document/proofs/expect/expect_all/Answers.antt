@@ -7,12 +7,6 @@ use Rattle.hoa_document.proofs.Leading.{stands_there}
 use Rattle.hoa_document.proofs.Dues.{due_at, due_no_more, first_fixed, others_fixed}
 use Rattle.hoa_document.proofs.expect.expect_all.Goals as goal
 
-pub loop-token-init : goal.loop-token-init
-loop-token-init c = (c.requires, λ k r. r)
-
-pub expect-requires : goal.expect-requires
-expect-requires c = first_fixed c.args.tokens.now c.loop-token.token-index c.loop-token.invariant.0 _ c.loop-token-test.true
-
 pub returns-in_err-head : goal.returns-in_err-head
 returns-in_err-head c k r =
     rw (passes_error _ c.from_residual.ensures.1) (c.in_err-head.ensures _ k (stands_there (due_at c.args.tokens.now c.loop-token.token-index (c.loop-token.invariant.1 k r) _ c.loop-token-test.true)))
@@ -23,6 +17,3 @@ loop-token-preserved c = (
   λ k r.
       c.in_ok-head.ensures (map lexeme (drop (c.loop-token.token-index + 1) c.args.tokens.now)) k (stands_there (due_at c.args.tokens.now c.loop-token.token-index (c.loop-token.invariant.1 k r) _ c.loop-token-test.true)),
 )
-
-pub returns : goal.returns
-returns c k r = due_no_more c.args.tokens.now c.loop-token.token-index (c.loop-token.invariant.1 k r) c.loop-token-test.false

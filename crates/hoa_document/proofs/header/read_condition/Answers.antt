@@ -5,7 +5,3 @@ use Rattle.hoa_document.proofs.header.read_condition.Goals as goal
 pub returns-in_err-head : goal.returns-in_err-head
 returns-in_err-head c k st =
     rw (passes_error _ c.from_residual.ensures.1) (c.in_err-head.ensures _ _ st)
-
-pub returns : goal.returns
-returns c k st =
-    c.expect_all.ensures k (c.in_ok-head.ensures _ _ st)

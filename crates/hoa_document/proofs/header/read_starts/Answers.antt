@@ -5,9 +5,6 @@ use Rattle.hoa_tokens.proofs.Returning.{passes_error}
 use Rattle.hoa_document.proofs.Starts.{no_starts, start_due, start_read, one_start_more, number_shortens}
 use Rattle.hoa_document.proofs.header.read_starts.Goals as goal
 
-pub loop-text-init : goal.loop-text-init
-loop-text-init c = no_starts c.requires.reached
-
 pub returns-in_err-behind : goal.returns-in_err-behind
 returns-in_err-behind c =
     let is = c.is_token.ensures.0 c.loop-text-test.true in
@@ -18,17 +15,7 @@ returns-in_err-start c =
     let is = c.is_token.ensures.0 c.loop-text-test.true in
     rw (passes_error _ c.from_residual-in_err-start.ensures.1) (start_read c.loop-text.invariant is c.in_ok-behind.behind c.in_ok-behind.ensures.scanned (Err _) c.in_err-start.ensures.read)
 
-pub loop-text-smaller : goal.loop-text-smaller
-loop-text-smaller c =
-    number_shortens c.args.text.bytes.now c.loop-text.head.next c.in_ok-behind.behind c.in_ok-start.start.head c.in_ok-start.start.value c.in_ok-behind.ensures.ahead c.in_ok-start.ensures.here c.in_ok-start.ensures.ahead
-
 pub loop-text-preserved : goal.loop-text-preserved
 loop-text-preserved c =
     let is = c.is_token.ensures.0 c.loop-text-test.true in
     one_start_more c.loop-text.invariant c.in_ok-start.start c.requires.few c.in_ok-start.ensures.below (start_read c.loop-text.invariant is c.in_ok-behind.behind c.in_ok-behind.ensures.scanned (Ok c.in_ok-start.start) c.in_ok-start.ensures.read)
-
-pub returns : goal.returns
-returns c =
-    let r = c.loop-text.invariant in
-    let other = not_from_Decides _ c.is_token.ensures c.loop-text-test.false in
-    (r.row, r.reached, r.members, r.below, other)
