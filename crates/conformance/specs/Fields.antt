@@ -1,5 +1,5 @@
 -- Promise. The fields of a line, and the numbers that stand there.
-use Rattle.std.specs.Prelude.{ℕ, ◌+◌, ◌-◌, ◌*◌, min, Bool, not, List, take, drop, ◌==◌}
+use Rattle.std.specs.Prelude.{ℕ, ◌+◌, ◌-◌, ◌*◌, min, List, ◌==◌}
 use Rattle.std.specs.List.{before_first, after_first}
 
 -- what stands before the first b, and what stands behind it

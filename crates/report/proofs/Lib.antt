@@ -1,2 +1,1 @@
 pub mod Lining
-pub mod Reading

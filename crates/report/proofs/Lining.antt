@@ -1,14 +1,7 @@
--- A line that is made of a head and a tail is the line of the token.
-use Rattle.std.proofs.Common.{◌≡◌, ℕ, List, [], ◌∷◌, ◌++◌, IfOk, Ok, codes, Result, sym, ap, ◌∙◌, append_assoc, append-nil}
-use Rattle.std.proofs.lemmas.Result.{IfOk-weaker}
-use Rattle.hoa_tokens.specs.declared.token.Placed.{Placed}
-use Rattle.hoa_tokens.specs.declared.token.Token.{Token}
-use Rattle.hoa_tokens.specs.Scanning.{Found, token, lexeme, found}
+-- The lines of what is found, and one line more.
+use Rattle.std.proofs.Common.{◌≡◌, ℕ, List, [], ◌∷◌, ◌++◌, sym, ap, ◌∙◌, append_assoc, append-nil}
+use Rattle.hoa_tokens.specs.Scanning.{Found}
 use Rattle.report.specs.Lines.{found_line, found_lines}
-
-pub token_lined : {X Y : Type 0} (r : Result X Y) (items : X → List ℕ) (t : Placed) (kind : Token) (head text tail : List ℕ) → t.token ≡ kind → head ≡ text → text ++ (tail ++ codes "\n") ≡ found_line (token (lexeme kind) t.place t.next) → IfOk r (λ v. items v ≡ head ++ (tail ++ codes "\n")) → IfOk r (λ v. items v ≡ found_line (found (Ok t)))
-token_lined r items t kind head text tail is made_of line h =
-    IfOk-weaker r _ _ (λ v e. e ∙ ap (λ b. b ++ (tail ++ codes "\n")) made_of ∙ line ∙ sym (ap (λ k. found_line (token (lexeme k) t.place t.next)) is)) h
 
 -- one more line
 pub lines_more : (xs : List Found) (x : Found) → found_lines (xs ++ x ∷ []) ≡ found_lines xs ++ found_line x

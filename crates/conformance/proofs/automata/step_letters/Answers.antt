@@ -1,4 +1,4 @@
-use Rattle.std.proofs.Common.{◌≡◌, ℕ, ◌+◌, ◌^◌, Bool, cond, ap, ◌∙◌, arith}
+use Rattle.std.proofs.Common.{◌≡◌, ◌+◌, ◌^◌, ap, ◌∙◌, arith}
 use Rattle.conformance.specs.Lines.{letter_set}
 use Rattle.conformance.proofs.Listing.{letter_set_more, letter_set_few}
 use Rattle.conformance.proofs.automata.step_letters.Given as given
@@ -11,9 +11,6 @@ more g c =
 
 pub overflow_add-set : goal.overflow_add-set
 overflow_add-set g c = omega (arith, more g c, letter_set_few (λ a. (g.A.Automaton.meaning c.args.automaton.now).step c.args.s a c.args.t) (c.loop-a.a + 1) (omega arith))
-
-pub loop-a-preserved : goal.loop-a-preserved
-loop-a-preserved g c = more g c
 
 pub returns : goal.returns
 returns g c =
