@@ -1,4 +1,3 @@
 mod Answering
 mod Listing
 mod Placing
-mod Unescaping

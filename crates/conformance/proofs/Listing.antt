@@ -18,9 +18,3 @@ letter_set_below test (suc n) =
 -- at most 16 letters make a number of 16 bits
 pub letter_set_few : (test : ℕ → Bool) (n : ℕ) → n ≤ 16 → letter_set test n < 65536
 letter_set_few test n few = omega (arith, letter_set_below test n, pow_mono {i = n} {j = 16} few)
-
--- six texts, one added behind the other
-pub texts_joined : (t₀ t₁ t₂ t₃ t₄ t₅ s₁ s₃ s₅ head a b c d e : List ℕ) → t₀ ≡ head → t₁ ≡ t₀ ++ s₁ → s₁ ≡ a → t₂ ≡ t₁ ++ b → t₃ ≡ t₂ ++ s₃ → s₃ ≡ c → t₄ ≡ t₃ ++ d → t₅ ≡ t₄ ++ s₅ → s₅ ≡ e → t₅ ≡ head ++ (a ++ (b ++ (c ++ (d ++ e))))
-texts_joined t₀ t₁ t₂ t₃ t₄ t₅ s₁ s₃ s₅ head a b c d e e₀ e₁ f₁ e₂ e₃ f₃ e₄ e₅ f₅ =
-    let flat : t₅ ≡ ((((head ++ a) ++ b) ++ c) ++ d) ++ e = cc in
-    flat ∙ simp append_assoc
