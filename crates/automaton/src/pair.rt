@@ -1,11 +1,12 @@
 //! The pair of two automata, which accepts what both accept.
-ghost use Rattle.std.specs.Prelude.{◌≡◌, ◌*◌, ◌^◌, ◌<◌, ◌≤◌, ◌==◌, MatchOption, MatchResult};
-ghost use Rattle.omega.specs.Automata.{Lowest};
-ghost use Rattle.omega.specs.Pairs.{pair, turned};
+ghost use Rattle.std.specs.Prelude.{◌≡◌, ◌+◌, ◌*◌, ◌/◌, ◌^◌, ◌<◌, ◌≤◌, Some, MatchOption, MatchResult};
+ghost use Rattle.omega.specs.Automata.{Lowest, most_states};
+ghost use Rattle.omega.specs.Pairs.{turned};
+ghost use Rattle.omega.specs.Cached.{usable, cached};
 ghost use Rattle.omega.specs.Places.{place, NoneInRow};
-ghost use Rattle.omega.proofs.Soundness.{pair_sound};
+ghost use Rattle.omega.proofs.Caching.{cached_sound};
 ghost use Rattle.automaton.specs.Questions.{Within};
-ghost use Rattle.automaton.specs.Parts.{Fit, Paired, Unfit};
+ghost use Rattle.automaton.specs.Parts.{Paired, Unfit};
 
 use crate::automaton::{Automaton, MOST_STATES, has_step};
 use crate::refusal::PartsRefusal;
@@ -13,21 +14,20 @@ use crate::refusal::PartsRefusal;
 /// Two automata side by side on one word.
 ///
 /// State (u, v, c) has the number (u × columns + v) × 2 + c, where c is 1 while the second part is waited for.
+// That the parts fit stands in no ghost field: with one, every type that keeps a pair would have to bound its parts, and a generic struct could not keep a pair of a pair.
+// So the two numbers are clipped where they are used.
 #[derive(Drop)]
-pub struct Pair<'a, 'b, A: Automaton, B: Automaton> {
+pub struct Pair<'a, 'b, A, B> {
     first: &'a A,
     second: &'b B,
     states: u32,
     columns: u32,
-    ghost fit: { Fit (A.Automaton.meaning first.now) (B.Automaton.meaning second.now) },
-    ghost counted: { states ≡ (A.Automaton.meaning first.now).states * (B.Automaton.meaning second.now).states * 2 },
-    ghost wide: { columns ≡ (B.Automaton.meaning second.now).states },
 }
 
 impl<'a, 'b, A: Automaton, B: Automaton> Pair<'a, 'b, A, B> {
     /// The pair of two automata; refused where their signals differ, and else where it would have more than 65,536 states.
     pub fn new(first: &'a A, second: &'b B) -> Result<Pair<'a, 'b, A, B>, PartsRefusal>
-        ensures { MatchResult result (λ x. Paired (A.Automaton.meaning first.now) (B.Automaton.meaning second.now) (pair (A.Automaton.meaning x.first.now) (B.Automaton.meaning x.second.now))) (Unfit (A.Automaton.meaning first.now) (B.Automaton.meaning second.now)) }
+        ensures { MatchResult result (λ x. Paired (A.Automaton.meaning first.now) (B.Automaton.meaning second.now) (cached x.states x.columns (A.Automaton.meaning x.first.now) (B.Automaton.meaning x.second.now))) (Unfit (A.Automaton.meaning first.now) (B.Automaton.meaning second.now)) }
     {
         if first.signals() != second.signals() {
             return Err(PartsRefusal::SignalsDiffer);
@@ -37,12 +37,33 @@ impl<'a, 'b, A: Automaton, B: Automaton> Pair<'a, 'b, A, B> {
         if states > u64::from(MOST_STATES) {
             return Err(PartsRefusal::TooManyStates);
         }
-        Ok(Pair {
+        Ok(Pair::of(first, second, states as u32, columns))
+    }
+
+    /// The pair of parts that fit, whose states and columns are these.
+    fn of(first: &'a A, second: &'b B, states: u32, columns: u32) -> Pair<'a, 'b, A, B>
+        requires signals { (A.Automaton.meaning first.now).signals ≡ (B.Automaton.meaning second.now).signals }
+        requires states { states ≡ (A.Automaton.meaning first.now).states * (B.Automaton.meaning second.now).states * 2 }
+        requires columns { columns ≡ (B.Automaton.meaning second.now).states }
+        requires fit { states ≤ most_states }
+        ensures { Paired (A.Automaton.meaning first.now) (B.Automaton.meaning second.now) (cached result.states result.columns (A.Automaton.meaning result.first.now) (B.Automaton.meaning result.second.now)) }
+    {
+        Pair {
             first,
             second,
-            states: states as u32,
+            states,
             columns,
-        })
+        }
+    }
+
+    /// How many states there are: those that were counted when the pair was made.
+    fn size(&self) -> u32
+        ensures { result ≡ usable self.now.states self.now.columns }
+    {
+        if self.columns == 0 {
+            return 0;
+        }
+        self.states.min(MOST_STATES)
     }
 
     /// Whether the second part is waited for behind a step out of (u, v, c): that turns if the state that is left, of the part that is waited for, is good.
@@ -56,42 +77,48 @@ impl<'a, 'b, A: Automaton, B: Automaton> Pair<'a, 'b, A, B> {
         }
     }
 
-    /// The lowest place, not below `g`, in the row of `g`, if both parts step there.
+    /// The lowest column, not below that of the place `g`, in the row of `g`, if both parts step there.
     fn next_in_row(&self, u: u32, v: u32, a: u32, g: u32) -> Option<u32>
         requires { 0 < self.now.columns }
-        ensures { MatchOption result (NoneInRow ((A.Automaton.meaning self.now.first.now).step u a) ((B.Automaton.meaning self.now.second.now).step v a) self.now.columns g) (λ k. (k < (A.Automaton.meaning self.now.first.now).states * (B.Automaton.meaning self.now.second.now).states) × Lowest (place ((A.Automaton.meaning self.now.first.now).step u a) ((B.Automaton.meaning self.now.second.now).step v a) self.now.columns) g (Some k)) }
+        ensures { MatchOption result (NoneInRow ((A.Automaton.meaning self.now.first.now).step u a) ((B.Automaton.meaning self.now.second.now).step v a) self.now.columns g) (λ q. (q < self.now.columns) × Lowest (place ((A.Automaton.meaning self.now.first.now).step u a) ((B.Automaton.meaning self.now.second.now).step v a) self.now.columns) g (Some (g / self.now.columns * self.now.columns + q))) }
     {
         let row = g / self.columns;
         if !has_step(self.first, u, a, row) {
             return None;
         }
         let q = self.second.next(v, a, g % self.columns)?;
-        Some(row * self.columns + q)
+        if q < self.columns { Some(q) } else { None }
     }
 
     /// The lowest place, not below `g`, to whose row and column the two parts step from `u` and `v`.
-    fn next_place(&self, u: u32, v: u32, a: u32, g: u32) -> Option<u32>
+    fn next_place(&self, u: u32, v: u32, a: u32, g: u32) -> Option<u64>
         requires wide { 0 < self.now.columns }
         requires low { g ≤ 2 ^ 31 }
         ensures is { Lowest (place ((A.Automaton.meaning self.now.first.now).step u a) ((B.Automaton.meaning self.now.second.now).step v a) self.now.columns) g result }
-        ensures small { Within ((A.Automaton.meaning self.now.first.now).states * (B.Automaton.meaning self.now.second.now).states) result }
+        ensures small { Within (2 ^ 49) result }
     {
-        if let Some(k) = self.next_in_row(u, v, a, g) {
-            return Some(k);
+        let w = self.columns;
+        let row = g / w;
+        if let Some(q) = self.next_in_row(u, v, a, g) {
+            return Some(u64::from(row) * u64::from(w) + u64::from(q));
         }
-        let p = self.first.next(u, a, g / self.columns + 1)?;
+        let p = self.first.next(u, a, row + 1)?;
         let q = self.second.next(v, a, 0)?;
-        Some(p * self.columns + q)
+        if q < w {
+            Some(u64::from(p) * u64::from(w) + u64::from(q))
+        } else {
+            None
+        }
     }
 }
 
 impl<A: Automaton, B: Automaton> Automaton for Pair<'_, '_, A, B> {
-    ghost meaning = { λ x. pair (A.Automaton.meaning x.first.now) (B.Automaton.meaning x.second.now) };
+    ghost meaning = { λ x. cached x.states x.columns (A.Automaton.meaning x.first.now) (B.Automaton.meaning x.second.now) };
 
-    ghost sound = { λ x. pair_sound (A.Automaton.meaning x.first.now) (B.Automaton.meaning x.second.now) x.fit.states (A.Automaton.sound x.first.now) };
+    ghost sound = { λ x. cached_sound x.states x.columns (A.Automaton.meaning x.first.now) (B.Automaton.meaning x.second.now) (A.Automaton.sound x.first.now) };
 
     fn states(&self) -> u32 {
-        self.states
+        self.size()
     }
 
     fn signals(&self) -> u32 {
@@ -100,18 +127,19 @@ impl<A: Automaton, B: Automaton> Automaton for Pair<'_, '_, A, B> {
 
     fn is_start(&self, s: u32) -> bool {
         let w = self.columns;
-        s < self.states
+        s < self.size()
             && s % 2 != 1
             && self.first.is_start(s / 2 / w)
             && self.second.is_start(s / 2 % w)
     }
 
     fn is_good(&self, s: u32) -> bool {
-        s < self.states && s % 2 == 1 && self.second.is_good(s / 2 % self.columns)
+        s < self.size() && s % 2 == 1 && self.second.is_good(s / 2 % self.columns)
     }
 
     fn next(&self, s: u32, a: u32, f: u32) -> Option<u32> {
-        if s >= self.states {
+        let n = self.size();
+        if s >= n {
             return None;
         }
         let u = s / 2 / self.columns;
@@ -119,6 +147,11 @@ impl<A: Automaton, B: Automaton> Automaton for Pair<'_, '_, A, B> {
         let c = self.switched(u, v, s % 2 == 1);
         let g = if c { f / 2 } else { f / 2 + f % 2 };
         let k = self.next_place(u, v, a, g)?;
-        Some(k * 2 + u32::from(c))
+        let t = k * 2 + u64::from(c);
+        if t < u64::from(n) {
+            Some(t as u32)
+        } else {
+            None
+        }
     }
 }

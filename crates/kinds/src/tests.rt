@@ -30,6 +30,18 @@ fn unpaired<A: Automaton, B: Automaton>(a: &A, b: &B) -> Option<PartsRefusal> {
     Pair::new(a, b).err()
 }
 
+/// What keeps a pair asks nothing of the pair's parts.
+#[derive(Drop)]
+struct Kept<'a, 'b, A, B> {
+    pair: Pair<'a, 'b, A, B>,
+}
+
+/// A pair of a pair is kept as any pair is.
+#[derive(Drop)]
+struct KeptTwice<'a, 'b, 'c, 'd, A, B, C> {
+    pair: Pair<'c, 'd, Pair<'a, 'b, A, B>, C>,
+}
+
 #[test]
 fn again_and_settles(rt: HostRuntime) -> Result<(), Fail> {
     let again = Again::new(3, 4)?;
@@ -136,5 +148,20 @@ fn tables_want_cells(rt: HostRuntime) -> Result<(), Fail> {
     assert_eq!(rt; table.states(), 0);
     assert!(rt; cells[0] == 5);
     assert!(rt; Draft::new(65, 0).is_none() && Draft::new(0, 5).is_none());
+    Ok(())
+}
+
+#[test]
+fn pairs_are_kept(rt: HostRuntime) -> Result<(), Fail> {
+    let a = ring(2, 1)?;
+    let b = ring(3, 1)?;
+    let kept = Kept {
+        pair: Pair::new(&a, &b)?,
+    };
+    assert_eq!(rt; kept.pair.states(), 12);
+    let twice = KeptTwice {
+        pair: Pair::new(&kept.pair, &a)?,
+    };
+    assert_eq!(rt; twice.pair.states(), 48);
     Ok(())
 }

@@ -13,4 +13,5 @@ pub mod Pairing
 pub mod Soundness
 pub mod Watching
 pub mod Places
+pub mod Caching
 pub mod Successors

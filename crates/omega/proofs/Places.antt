@@ -31,7 +31,16 @@ module _ (P Q : ℕ → Bool) (w : ℕ) (wide : 0 < w) (g : ℕ) where
   place_passes r c inside row column =
       both_pass _ _ (subst (λ x. T (P x)) (sym (digits_div r inside)) row) (subst (λ x. T (Q x)) (sym (digits_mod r inside)) column)
 
-  -- where the search ends past the row of g: in a later row, or nowhere
+  -- where the search ends: in the row of g, in a later row, or nowhere
+  pub place_in_row : (q : ℕ) → T (P (g / w)) → Lowest Q (g % w) (Some q) → q < w → Lowest (place P Q w) g (Some (g / w * w + q))
+  place_in_row q row (late, column, first) inside = (
+    omega (arith, div-add-mod' g w),
+    place_passes (g / w) q inside row column,
+    λ k h before passes.
+        let (same, low) = place_parts w (g / w) q k (omega arith) (omega (arith, div-add-mod' g w)) before in
+        first (k % w) (omega (arith, div-add-mod' g w, div-add-mod' k w, ap (λ r. r * w) same)) low (parts_pass (P (k / w)) (Q (k % w)) passes).1,
+  )
+
   pub place_in_later_row : (p q : ℕ) → NoneInRow P Q w g → Lowest P (g / w + 1) (Some p) → Lowest Q 0 (Some q) → q < w → Lowest (place P Q w) g (Some (p * w + q))
   place_in_later_row p q none (late, row, first-row) (_, column, first-column) inside =
       let up : (g / w + 1) * w ≤ p * w = mul-le-mul_right w late in (

@@ -5,5 +5,6 @@ pub mod Rankings
 pub mod Pairs
 pub mod Signals
 pub mod Tables
+pub mod Cached
 pub mod Places
 pub mod Laws

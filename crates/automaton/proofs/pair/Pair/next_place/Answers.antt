@@ -1,4 +1,3 @@
-use Rattle.std.proofs.Common.{arith}
 use Rattle.omega.proofs.Places.{place_in_later_row, no_later_row}
 use Rattle.automaton.proofs.pair.Pair.next_place.Goals as goal
 
@@ -6,6 +5,7 @@ pub returns-in_err-p-clause-is : goal.returns-in_err-p-clause-is
 returns-in_err-p-clause-is g c =
     rw c.from_residual.ensures (no_later_row _ _ c.args.self.now.columns c.requires.wide c.args.g c.in_default.ensures c.in_err-p.ensures.is)
 
-pub returns-clause-is : goal.returns-clause-is
-returns-clause-is g c =
-    place_in_later_row _ _ c.args.self.now.columns c.requires.wide c.args.g c.in_ok-p.p c.in_ok-q.q c.in_default.ensures c.in_ok-p.ensures.is c.in_ok-q.ensures.is (omega (arith, c.args.self.now.wide, c.in_ok-q.ensures.lands))
+pub returns-then-q-w-clause-is : goal.returns-then-q-w-clause-is
+returns-then-q-w-clause-is g c =
+    rw (c.from-then-q-w.ensures, c.from-then-q-w-2.ensures, c.from-then-q-w-3.ensures)
+    (place_in_later_row _ _ c.args.self.now.columns c.requires.wide c.args.g c.in_ok-p.p c.in_ok-q.q c.in_default.ensures c.in_ok-p.ensures.is c.in_ok-q.ensures.is c.if-q-w.true)
