@@ -1,8 +1,10 @@
 -- The names of a header: those that the reader holds are those that it has read, and one of them in hand is repeated.
-use Rattle.std.proofs.Common.{◌≡◌, ℕ, suc, ◌+◌, ◌-◌, ◌<◌, Bool, true, false, ◌||◌, List, [], ◌∷◌, ◌++◌, length, Result, sym, refl, ap, ◌∙◌, subst, arith, Bor, MatchResult}
+use Rattle.std.proofs.Common.{◌≡◌, ℕ, zero, suc, ◌+◌, ◌-◌, ◌<◌, ◌≤◌, Bool, true, false, ◌||◌, List, length, take, Result, sym, refl, ap, ◌∙◌, subst, add-one, arith, Bor, MatchResult}
 use Rattle.std.specs.List.{list_any}
 use Rattle.std.specs.Str.{bytes_eq}
-use mathlib.Core.Bool.{or-false}
+use mathlib.Core.Bool.{or_comm}
+use Rattle.std.proofs.lemmas.List.{length-take}
+use Rattle.std.proofs.lemmas.List.Folds.{list_any_more}
 use Rattle.std.proofs.lemmas.Slice.Eq.{bytes_eq-Decides}
 use Rattle.hoa_tokens.specs.declared.fault.Fault.{Fault}
 use Rattle.hoa_tokens.specs.declared.fault.Refusal.TheVariants.{Unexpected, Repeated}
@@ -10,14 +12,15 @@ use Rattle.hoa_tokens.specs.declared.token.Placed.{Placed}
 use Rattle.hoa_tokens.specs.declared.token.Token.{Token}
 use Rattle.hoa_tokens.specs.declared.token.Token.TheVariants as case
 use Rattle.hoa_tokens.specs.Scanning.{lexeme, found, Scanned, clipped}
-use Rattle.hoa_grammar.specs.Rows.{Row, none, more, size, some}
+use Rattle.hoa_grammar.specs.Rows.{Row, more, size, some}
 use Rattle.hoa_grammar.specs.Documents.{alike, name_limit}
 use Rattle.hoa_grammar.specs.Machine.{State, stuck, goes, at, names, step}
 use Rattle.hoa_grammar.specs.Reading.{Reached, Refused}
 use Rattle.hoa_grammar.specs.Verdicts.{fault_at}
 use Rattle.hoa_grammar.proofs.Tests.{alike_true, alike_refl}
 use Rattle.hoa_grammar.proofs.Stepping.{reached_on, reached_stuck, reached_broken}
-use Rattle.hoa_document.specs.Naming.{names_behind}
+use Rattle.hoa_document.specs.declared.names.Names.{Names}
+use Rattle.hoa_document.specs.Naming.{name_at, first_names}
 use Rattle.hoa_document.proofs.Leading.{breaks_where, keeps_where}
 
 -- a name is the one that a comparison finds
@@ -30,36 +33,21 @@ alike_is v w = go (alike w v) (bytes_eq v w) refl refl
     go true false p q = sym (sym q ∙ (bytes_eq-Decides v w).1 (sym (alike_true w v p)))
     go false true p q = sym p ∙ subst (λ u. alike w u ≡ true) (sym ((bytes_eq-Decides v w).0 q)) (alike_refl w)
 
-pub size_behind : (ws : Row (List ℕ)) (vs : List (Bor (List ℕ))) → size (names_behind ws vs) ≡ size ws + length vs
-size_behind ws [] = omega arith
-size_behind ws (v ∷ vs) = omega (arith, size_behind (more ws v.now) vs)
+module _ (held : List (Bor (List ℕ))) where
+  pub size_first : (i : ℕ) → size (first_names held i) ≡ i
+  size_first zero = refl
+  size_first (suc i) = omega (arith, size_first i)
 
--- one more name is the last of the row
-pub behind-append : (ws : Row (List ℕ)) (vs : List (Bor (List ℕ))) (v : Bor (List ℕ)) → names_behind ws (vs ++ v ∷ []) ≡ more (names_behind ws vs) v.now
-behind-append ws [] v = refl
-behind-append ws (u ∷ us) v = behind-append (more ws u.now) us v
+  -- one of the first m names is w
+  pub any_held : (w : List ℕ) (m : ℕ) → m ≤ length held → list_any (λ v. bytes_eq v.now w) (take m held) ≡ some (alike w) (first_names held m)
+  any_held w zero inside = refl
+  any_held w (suc m) inside =
+      let more : list_any (λ v. bytes_eq v.now w) (take (suc m) held) ≡ (list_any (λ v. bytes_eq v.now w) (take m held) || bytes_eq (name_at held m) w) = rw (← add-one m) (list_any_more (λ v. bytes_eq v.now w) held m _ (omega arith)) in
+      more ∙ ap (λ b. b || bytes_eq (name_at held m) w) (any_held w m (omega arith)) ∙ or_comm (some (alike w) (first_names held m)) (bytes_eq (name_at held m) w) ∙ ap (λ b. b || some (alike w) (first_names held m)) (sym (alike_is (name_at held m) w))
 
--- one of the names of a row, or of a list behind it, is w
-some_behind : (w : List ℕ) (ws : Row (List ℕ)) (vs : List (Bor (List ℕ))) → some (alike w) (names_behind ws vs) ≡ (list_any (λ v. bytes_eq v.now w) vs || some (alike w) ws)
-some_behind w ws [] = refl
-some_behind w ws (v ∷ vs) =
-    some_behind w (more ws v.now) vs
-    ∙ ap (λ b. list_any (λ v. bytes_eq v.now w) vs || (b || some (alike w) ws)) (alike_is v.now w)
-    ∙ shuffle (list_any (λ v. bytes_eq v.now w) vs) (bytes_eq v.now w) (some (alike w) ws)
-  where
-    shuffle : (a b c : Bool) → (a || (b || c)) ≡ ((b || a) || c)
-    shuffle true true c = refl
-    shuffle true false c = refl
-    shuffle false true c = refl
-    shuffle false false c = refl
-
--- one of the names of a list is w
-any_held : (w : List ℕ) (vs : List (Bor (List ℕ))) → list_any (λ v. bytes_eq v.now w) vs ≡ some (alike w) (names_behind none vs)
-any_held w vs = sym (some_behind w none vs ∙ or-false (list_any (λ v. bytes_eq v.now w) vs))
-
--- so a search of the list tells whether one of the row is
-pub found_among : (w : List ℕ) {held xs : List (Bor (List ℕ))} {b r : Bool} → b ≡ list_any (λ v. bytes_eq v.now w) xs → xs ≡ held → b ≡ r → some (alike w) (names_behind none held) ≡ r
-found_among w {held = held} any is answer = sym (any_held w held) ∙ ap (list_any (λ v. bytes_eq v.now w)) (sym is) ∙ sym any ∙ answer
+-- names whose slice is as long as their count are all held
+pub all_held : (x : Names) {xs : List (Bor (List ℕ))} → xs ≡ take x.count x.list → length xs ≡ x.count → x.count ≤ length x.list
+all_held x part long = omega (arith, long, ap length part, length-take x.count x.list)
 
 -- one more name may come where i of them are read
 module _ {text : List ℕ} {head : Placed} {n : ℕ} {row : Row ℕ} {ws : Row (List ℕ)} (i signals : ℕ) (inside : i < signals) (r : Reached text (at (names n row ws (signals - i))) head) where

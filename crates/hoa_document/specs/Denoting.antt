@@ -1,7 +1,5 @@
 -- Promise. What a text says: the document that it writes, the automaton and the names that this document denotes, or why it is refused.
 use Rattle.std.specs.Prelude.{◌≡◌, ℕ, ◌<◌, ◌≤◌, List, length}
-use Rattle.std.specs.Borrow.{Bor}
-use Rattle.arrayvec.specs.ArrayVec.{ArrayVec}
 use Rattle.omega.specs.Automata.{Meaning}
 use Rattle.hoa_tokens.specs.declared.fault.Fault.{Fault}
 use Rattle.hoa_tokens.specs.declared.fault.Refusal.TheVariants.{TooLong}
@@ -11,6 +9,7 @@ use Rattle.hoa_tokens.specs.Cuts.{Cut}
 use Rattle.hoa_grammar.specs.Rows.{size}
 use Rattle.hoa_grammar.specs.Documents.{Document, is_start, is_good, is_step}
 use Rattle.hoa_grammar.specs.Verdicts.{Writes, FirstFault}
+use Rattle.hoa_document.specs.declared.names.Names.{Names}
 use Rattle.hoa_document.specs.Naming.{row_of}
 
 -- the automaton is the one that the document means
@@ -33,7 +32,7 @@ abbrev pub TextDenotes : List ℕ → Meaning → Type 0
 TextDenotes text A = (d : Document) × TextWrites text d × Denotes d A
 
 -- the text writes a document, and these are its names
-abbrev pub TextNames : List ℕ → ArrayVec (Bor (List ℕ)) → Type 0
+abbrev pub TextNames : List ℕ → Names → Type 0
 TextNames text x = (d : Document) × TextWrites text d × (d.header.names ≡ row_of x)
 
 -- the text is refused: it is too long, or else this is its first fault

@@ -8,7 +8,7 @@ use Rattle.hoa_tokens.specs.declared.token.Mark.TheVariants.{OpenBracket}
 use Rattle.hoa_tokens.specs.Scanning.{number, mark, lexeme, Found}
 use Rattle.hoa_tokens.specs.Cuts.{Cut}
 use Rattle.hoa_grammar.specs.Rows.{Row, none, more, some, size}
-use Rattle.hoa_grammar.specs.Documents.{Header, Block, Letters, Document, most_states, letters_hold, block_steps}
+use Rattle.hoa_grammar.specs.Documents.{Header, Block, Letters, Document, most_states, most_signals, letters_hold, block_steps}
 use Rattle.hoa_grammar.specs.Machine.{Current, blocks, edges, done, State, at, step, number_only, edge_to, header_of, initial, reading, run}
 use Rattle.hoa_grammar.specs.Reading.{Reached}
 use Rattle.hoa_labels.specs.Letters.{Means}
@@ -84,6 +84,7 @@ pub record BlocksRead (text : List ℕ) (n p : ℕ) (names : Row (List ℕ)) (se
 -- the header is read: it is the one of these states, starts and names, and the first block is due
 pub record HeaderRead (text : List ℕ) (x : Read Heading) : Type 0 where
   pub few : x.value.states ≤ most_states
+  pub narrow : x.value.names.count ≤ most_signals
   pub row : Row ℕ
   pub started : InRow x.value.starts row
   pub within : x.value.starts < 2 ^ x.value.states

@@ -26,7 +26,8 @@ fn read_letters<'a>(
     requires { BeginsEdge head }
     ensures { (cur : Current) → size cur.header.names ≡ signals.count → Stands text.entry.bytes.now (at (edges_slot cur)) head.entry → MatchResult result (LettersRead text.entry.bytes.now cur signals.count) (Refused text.entry.bytes.now) }
 {
-    if is_token(&head, Token::Mark(Mark::OpenBracket)) {
+    // A pattern and no `==` of tokens, since every edge is asked.
+    if let Token::Mark(Mark::OpenBracket) = head.token {
         let behind = text.scan(head.next)?;
         return read_label(text, behind, signals);
     }
@@ -178,9 +179,8 @@ pub(crate) fn read_body<'a>(text: Text<'a>, header: &Read<'a, Heading<'a>>) -> R
     ensures { MatchResult result (λ draft. (d : Document) × DocumentRead text.entry.bytes.now d × Drafted d.header d.blocks draft × (d.header.names ≡ row_of header.now.value.names)) (Refused text.entry.bytes.now) }
 {
     let heading = &header.value;
-    let count = heading.names.len() as u32;
-    let signals = Signals::new(count).unwrap();
-    let mut draft = Draft::new(heading.states, count).unwrap();
+    let signals = Signals::new(heading.names.count).unwrap();
+    let mut draft = Draft::new(heading.states, heading.names.count).unwrap();
     draft.add_starts(heading.starts);
     let head = read_blocks(text, header, signals, &mut draft)?;
     read_end(text, head)?;

@@ -1,7 +1,8 @@
 //! The two things that a text says.
-ghost use Rattle.std.specs.Prelude.{◌≡◌, ◌≤◌, length, MatchResult};
+ghost use Rattle.std.specs.Prelude.{◌≡◌, ◌≤◌, length, IfOk, MatchResult};
 ghost use Rattle.tables.specs.Meanings.{draft_meaning};
 ghost use Rattle.hoa_tokens.specs.Numbers.{longest_text};
+ghost use Rattle.hoa_grammar.specs.Documents.{most_signals};
 ghost use Rattle.hoa_document.specs.Denoting.{TextDenotes, TextNames, TextRefused, SaysOne};
 ghost use Rattle.hoa_document.specs.Drafting.{HeaderRead};
 
@@ -12,7 +13,7 @@ use hoa_tokens::{Fault, Read, Text};
 use tables::Draft;
 
 /// A text, and what its header says.
-#[derive(Drop)]
+#[derive(Clone, Copy)]
 struct Begun<'a> {
     text: Text<'a>,
     header: Read<'a, Heading<'a>>,
@@ -39,7 +40,8 @@ pub fn read_draft(bytes: &[u8]) -> Result<Draft, Fault>
 /// The names of the text's document; or why the text is refused, for whatever fault.
 #[tactic(auto, using(crate::proofs::Meant::writes_here))]
 pub fn read_names(bytes: &[u8]) -> Result<Names<'_>, Fault>
-    ensures { MatchResult result (TextNames bytes.now) (TextRefused bytes.now) }
+    ensures names { MatchResult result (TextNames bytes.now) (TextRefused bytes.now) }
+    ensures few { IfOk result (λ x. x.count ≤ most_signals) }
 {
     let begun = begin(bytes)?;
     read_body(begun.text, &begun.header)?;

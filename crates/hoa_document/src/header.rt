@@ -26,7 +26,7 @@ const INFINITELY_OFTEN: [Token<'static>; 6] = [
 ];
 
 /// What a header says.
-#[derive(Drop)]
+#[derive(Clone, Copy)]
 pub(crate) struct Heading<'a> {
     pub states: u32,
     pub starts: u64,
@@ -125,7 +125,7 @@ fn read_names<'a>(
     signals: u32,
 ) -> Result<Read<'a, Names<'a>>, Fault>
     requires { signals ≤ most_signals }
-    ensures { (n : ℕ) (row : Row ℕ) → Reached text.entry.bytes.now (at (names_slot n row none signals)) head.entry → MatchResult result (λ x. Reached text.entry.bytes.now (at (names_slot n row (row_of x.value) 0)) x.head) (Refused text.entry.bytes.now) }
+    ensures { (n : ℕ) (row : Row ℕ) → Reached text.entry.bytes.now (at (names_slot n row none signals)) head.entry → MatchResult result (λ x. (x.value.count ≡ signals) × Reached text.entry.bytes.now (at (names_slot n row (row_of x.value) 0)) x.head) (Refused text.entry.bytes.now) }
 {
     let mut names = Names::new();
     let mut head = head;
@@ -133,7 +133,7 @@ fn read_names<'a>(
         let Token::Name(name) = head.token else {
             return Err(Refusal::Unexpected.at(head.place));
         };
-        if names.contains(&name) {
+        if names.contains(name) {
             return Err(Refusal::Repeated.at(head.place));
         }
         names.push(name);

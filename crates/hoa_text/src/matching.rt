@@ -22,10 +22,10 @@ pub fn match_names(first: &[u8], second: &[u8]) -> Result<(), MatchRefusal>
 {
     let left = read_names(first).map_err(MatchRefusal::First)?;
     let right = read_names(second).map_err(MatchRefusal::Second)?;
-    if left.len() != right.len() {
+    if left.count != right.count {
         return Err(MatchRefusal::Parts(PartsRefusal::SignalsDiffer));
     }
-    if !alike(&left, &right) {
+    if !alike(left.as_slice(), right.as_slice()) {
         return Err(MatchRefusal::Parts(PartsRefusal::NamesDiffer));
     }
     Ok(())

@@ -1,6 +1,6 @@
 //! The names of a text's signals.
 ghost use Rattle.std.specs.Prelude.{◌≡◌, ◌<◌, ◌≤◌, MatchOption, MatchResult};
-ghost use Rattle.arrayvec.specs.ArrayVec.{array_vec_len};
+ghost use Rattle.hoa_grammar.specs.Documents.{most_signals};
 ghost use Rattle.hoa_document.specs.Naming.{name_at};
 ghost use Rattle.hoa_text.specs.Naming.{NameGiven, NoName};
 
@@ -10,9 +10,10 @@ use hoa_document::{Names, read_names};
 
 /// The name at place `i` of those that a text has, or none past them.
 fn name_at<'a>(names: &Names<'a>, i: u32) -> Option<&'a [u8]>
-    ensures { MatchOption result (array_vec_len names.now ≤ i) (λ w. (i < array_vec_len names.now) × (w.now ≡ name_at names.now.items i)) }
+    requires { names.now.count ≤ most_signals }
+    ensures { MatchOption result (names.now.count ≤ i) (λ w. (i < names.now.count) × (w.now ≡ name_at names.now.list i)) }
 {
-    names.get(i as usize).copied()
+    names.as_slice().get(i as usize).copied()
 }
 
 /// The part of the text that is the name of signal `i`, without its quotes.

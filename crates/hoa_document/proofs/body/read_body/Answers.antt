@@ -1,12 +1,12 @@
 -- The blocks are read into a draft that holds the header, and the text ends behind them.
-use Rattle.std.proofs.Common.{◌≡◌, sym, refl, ◌∙◌, arith}
+use Rattle.std.proofs.Common.{sym, refl, ◌∙◌}
 use Rattle.std.proofs.lemmas.Option.{MatchOption-at_some}
 use Rattle.hoa_tokens.proofs.Returning.{passes_error}
-use Rattle.hoa_grammar.specs.Rows.{none, size as size_of}
+use Rattle.hoa_grammar.specs.Rows.{none}
 use Rattle.hoa_grammar.specs.Machine.{header_of}
 use Rattle.hoa_document.specs.Naming.{row_of}
 use Rattle.hoa_document.proofs.Leading.{stands_there}
-use Rattle.hoa_document.proofs.HeldNames.{size_behind}
+use Rattle.hoa_document.proofs.HeldNames.{size_first}
 use Rattle.hoa_document.proofs.Drafts.{drafted_empty, described_none}
 use Rattle.hoa_document.proofs.body.read_body.Goals as goal
 
@@ -14,7 +14,7 @@ pub read_blocks-requires : goal.read_blocks-requires
 read_blocks-requires c =
     let x = c.args.header.now.value in
     let header = header_of x.states c.requires.row (row_of x.names) c.requires.told in
-    let size : size_of (row_of x.names) ≡ c.len-count.result = omega (arith, size_behind none x.names.items, c.len-count.ensures.value) in
+    let size = size_first x.names.list x.names.count in
     let counted = MatchOption-at_some _ _ c.unwrap-signals.result c.unwrap-signals.ensures c.new.ensures in
     let made = MatchOption-at_some _ _ c.unwrap-draft.result c.unwrap-draft.ensures c.new-2.ensures in
     record {

@@ -4,7 +4,7 @@ use Rattle.hoa_tokens.proofs.Returning.{passes_error}
 use Rattle.hoa_tokens.specs.declared.token.Token.TheVariants.{End}
 use Rattle.hoa_tokens.specs.Scanning.{lexeme}
 use Rattle.hoa_document.proofs.Leading.{stands_there}
-use Rattle.hoa_document.proofs.Dues.{due_at, due_no_more, first_fixed, others_fixed}
+use Rattle.hoa_document.proofs.Dues.{due_at, others_fixed}
 use Rattle.hoa_document.proofs.expect.expect_all.Goals as goal
 
 pub returns-in_err-head : goal.returns-in_err-head

@@ -1,8 +1,7 @@
 -- Each `Start:` adds a state to the set, and the token behind it is further ahead.
 use Rattle.std.proofs.Common.{Ok, Err}
-use Rattle.std.proofs.lemmas.Bool.Decides.{not_from_Decides}
 use Rattle.hoa_tokens.proofs.Returning.{passes_error}
-use Rattle.hoa_document.proofs.Starts.{no_starts, start_due, start_read, one_start_more, number_shortens}
+use Rattle.hoa_document.proofs.Starts.{start_due, start_read, one_start_more}
 use Rattle.hoa_document.proofs.header.read_starts.Goals as goal
 
 pub returns-in_err-behind : goal.returns-in_err-behind
