@@ -1,7 +1,9 @@
 //! Reading a label, through its terms and factors.
 ghost use Rattle.std.specs.Prelude.{◌≡◌, ◌+◌, ◌<◌, ◌≤◌, MatchResult};
 ghost use Rattle.hoa_tokens.specs.declared.fault.Refusal.TheVariants.{TooDeep, OutOfRange};
+ghost use Rattle.hoa_tokens.specs.Scanning.{lexeme, mark as mark_of};
 ghost use Rattle.hoa_grammar.specs.Labels.{on, deepest};
+ghost use Rattle.hoa_grammar.specs.Machine.{is_token};
 ghost use Rattle.hoa_grammar.specs.Verdicts.{fault_at};
 ghost use Rattle.hoa_labels.specs.Letters.{Means};
 ghost use Rattle.hoa_labels.specs.Parts.{WordRead, Passed, ClosedBy, FactorRead, TermRead, LabelRead, BracketedRead};
@@ -40,6 +42,14 @@ fn letters_of_signal(signals: Signals, signal: u32, place: usize) -> Result<u16,
     Ok(signals.letters_with(signal))
 }
 
+/// Whether a token is this mark.
+// No `==` of tokens, which stands ready to compare the bytes of words too.
+fn is_mark(token: Token<'_>, mark: Mark) -> bool
+    ensures { result ≡ is_token (mark_of mark) (lexeme token.entry) }
+{
+    matches!(token, Token::Mark(m) if m == mark)
+}
+
 /// What labels are read from: a text, and the signals that it has.
 #[derive(Clone, Copy)]
 struct Reader<'a> {
@@ -49,8 +59,8 @@ struct Reader<'a> {
 
 impl<'a> Reader<'a> {
     /// The letters, with the token behind the one in hand.
-    fn passed(self, head: Placed<'a>, letters: u16) -> Result<Read<'a, u16>, Fault>
-        ensures { Passed self.entry.text.bytes.now head.entry letters result }
+    fn passed(&self, head: Placed<'a>, letters: u16) -> Result<Read<'a, u16>, Fault>
+        ensures { Passed self.now.text.bytes.now head.entry letters result }
     {
         let behind = self.text.scan(head.next)?;
         Ok(Read {
@@ -60,10 +70,10 @@ impl<'a> Reader<'a> {
     }
 
     /// The part with the token behind the mark that has to end it.
-    fn closed(self, part: Read<'a, u16>, mark: Mark) -> Result<Read<'a, u16>, Fault>
-        ensures { ClosedBy mark self.entry.text.bytes.now part.entry result }
+    fn closed(&self, part: Read<'a, u16>, mark: Mark) -> Result<Read<'a, u16>, Fault>
+        ensures { ClosedBy mark self.now.text.bytes.now part.entry result }
     {
-        if part.head.token != Token::Mark(mark) {
+        if !is_mark(part.head.token, mark) {
             return Err(Refusal::Unexpected.at(part.head.place));
         }
         self.passed(part.head, part.value)
@@ -74,14 +84,14 @@ impl<'a> Reader<'a> {
 
     /// Terms joined by `|`, from the token in hand on.
     #[cycle(factor_label_term)]
-    fn label(self, head: Placed<'a>, room: u32) -> Result<Read<'a, u16>, Fault>
-        ensures { LabelRead self.entry.text.bytes.now head.entry self.entry.signals.count room result }
+    fn label(&self, head: Placed<'a>, room: u32) -> Result<Read<'a, u16>, Fault>
+        ensures { LabelRead self.now.text.bytes.now head.entry self.now.signals.count room result }
     {
         let Read {
             value: mut letters,
             mut head,
         } = self.term(head, room)?;
-        while head.token == Token::Mark(Mark::Or) {
+        while is_mark(head.token, Mark::Or) {
             let behind = self.text.scan(head.next)?;
             let more = self.term(behind, room)?;
             letters = either(letters, more.value);
@@ -95,14 +105,14 @@ impl<'a> Reader<'a> {
 
     /// Factors joined by `&`, from the token in hand on.
     #[cycle(factor_label_term)]
-    fn term(self, head: Placed<'a>, room: u32) -> Result<Read<'a, u16>, Fault>
-        ensures { TermRead self.entry.text.bytes.now head.entry self.entry.signals.count room result }
+    fn term(&self, head: Placed<'a>, room: u32) -> Result<Read<'a, u16>, Fault>
+        ensures { TermRead self.now.text.bytes.now head.entry self.now.signals.count room result }
     {
         let Read {
             value: mut letters,
             mut head,
         } = self.factor(head, room)?;
-        while head.token == Token::Mark(Mark::And) {
+        while is_mark(head.token, Mark::And) {
             let behind = self.text.scan(head.next)?;
             let more = self.factor(behind, room)?;
             letters = both(letters, more.value);
@@ -116,8 +126,8 @@ impl<'a> Reader<'a> {
 
     /// `t`, `f`, a signal, `!` and a factor, or a label in parentheses, with room for so many more `(` and `!`.
     #[cycle(factor_label_term)]
-    fn factor(self, head: Placed<'a>, room: u32) -> Result<Read<'a, u16>, Fault>
-        ensures { FactorRead self.entry.text.bytes.now head.entry self.entry.signals.count room result }
+    fn factor(&self, head: Placed<'a>, room: u32) -> Result<Read<'a, u16>, Fault>
+        ensures { FactorRead self.now.text.bytes.now head.entry self.now.signals.count room result }
     {
         match head.token {
             Token::Word(word) => {
@@ -151,8 +161,8 @@ impl<'a> Reader<'a> {
     }
 
     /// The label of an edge, from behind its `[` to behind its `]`, with room for so many `(` and `!`.
-    fn bracketed(self, head: Placed<'a>, room: u32) -> Result<Read<'a, u16>, Fault>
-        ensures { room ≡ deepest → BracketedRead self.entry.text.bytes.now head.entry self.entry.signals.count result }
+    fn bracketed(&self, head: Placed<'a>, room: u32) -> Result<Read<'a, u16>, Fault>
+        ensures { room ≡ deepest → BracketedRead self.now.text.bytes.now head.entry self.now.signals.count result }
     {
         let part = self.label(head, room)?;
         self.closed(part, Mark::CloseBracket)

@@ -1,6 +1,5 @@
 //! Classes of bytes.
-ghost use Rattle.std.specs.Prelude.{◌≡◌, ◌≤◌, length};
-ghost use Rattle.std.specs.List.{prefix_len};
+ghost use Rattle.std.specs.Prelude.{◌≡◌};
 ghost use Rattle.hoa_tokens.specs.Bytes.{letter, digit, member, sign, MarkRead};
 
 use crate::fault::Refusal;
@@ -81,13 +80,5 @@ impl Class {
             Class::Digit => is_digit(b),
             Class::Name => matches!(b, b' '..=b'~') && b != b'"' && b != b'\\',
         }
-    }
-
-    /// How many bytes of the class the bytes begin with.
-    pub fn count_front(self, bytes: &[u8]) -> usize
-        ensures count { result ≡ prefix_len (member self) bytes.now }
-        ensures within { result ≤ length bytes.now }
-    {
-        bytes.iter().take_while(|b| self.holds(**b)).count()
     }
 }

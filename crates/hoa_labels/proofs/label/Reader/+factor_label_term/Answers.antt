@@ -13,7 +13,7 @@ factor-returns-in_err-letters-in-Word t c =
 
 pub factor-returns-in_ok-letters-in-Word : goal.factor-returns-in_ok-letters-in-Word
 factor-returns-in_ok-letters-in-Word t c =
-    word_read c.args.self.text.bytes.now c.args.head c.args.self.signals.count c.args.room (ap lexeme c.in-Word.is) c.in_ok-letters-in-Word.letters c.in_ok-letters-in-Word.ensures c.passed.result c.passed.ensures
+    word_read c.args.self.now.text.bytes.now c.args.head c.args.self.now.signals.count c.args.room (ap lexeme c.in-Word.is) c.in_ok-letters-in-Word.letters c.in_ok-letters-in-Word.ensures c.passed.result c.passed.ensures
 
 pub factor-returns-in_err-letters-in-Number : goal.factor-returns-in_err-letters-in-Number
 factor-returns-in_err-letters-in-Number t c =
@@ -23,7 +23,7 @@ factor-returns-in_err-letters-in-Number t c =
 pub factor-returns-in_ok-letters-in-Number : goal.factor-returns-in_ok-letters-in-Number
 factor-returns-in_ok-letters-in-Number t c =
     let read = c.in_ok-letters-in-Number.ensures in
-    signal_read c.args.self.text.bytes.now c.args.head c.args.self.signals.count c.args.room (ap lexeme c.in-Number.is) c.in_ok-letters-in-Number.letters read.0 read.1 c.passed-in-Number.result c.passed-in-Number.ensures
+    signal_read c.args.self.now.text.bytes.now c.args.head c.args.self.now.signals.count c.args.room (ap lexeme c.in-Number.is) c.in_ok-letters-in-Number.letters read.0 read.1 c.passed-in-Number.result c.passed-in-Number.ensures
 
 pub factor-returns-in_err-inside-in-Not : goal.factor-returns-in_err-inside-in-Not
 factor-returns-in_err-inside-in-Not t c =
