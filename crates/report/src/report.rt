@@ -20,6 +20,25 @@ pub enum Report {
     Refused(String),
 }
 
+impl Report {
+    /// The bytes that are printed.
+    pub fn lines(&self) -> &[u8]
+        ensures { result.now ≡ lines_of self.now }
+    {
+        match self {
+            Report::Listed(lines) => lines.as_slice(),
+            Report::Refused(line) => line.as_bytes(),
+        }
+    }
+
+    /// Whether the program goes on behind them.
+    pub fn goes_on(&self) -> bool
+        ensures { result ≡ is_sound self.now }
+    {
+        matches!(self, Report::Listed(_))
+    }
+}
+
 /// What is wrong with a byte of a text.
 // No Display of the refusal: it is the readers' type, and these words are this program's.
 fn complaint_of(refusal: Refusal) -> &'static str
